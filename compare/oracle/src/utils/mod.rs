@@ -1,0 +1,3 @@
+//! Stands for `czsc_signals::utils`.
+
+pub mod sig;

@@ -1,0 +1,5 @@
+-- Laws that the proofs of several functions, and the crates above, cite.
+pub mod Order
+pub mod RunLaws
+pub mod WindowLaws
+pub mod FoldLaws

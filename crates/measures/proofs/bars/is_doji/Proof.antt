@@ -1,0 +1,13 @@
+-- The code is the definition.
+use Rattle.measures.specs.Bar.{dojiOf}
+use Rattle.measures.proofs.bars.is_doji.Statement.{statement}
+use Rattle.measures.proofs.bars.is_doji.Tie as tie
+
+returns : tie.Need-returns
+unfolding dojiOf
+returns c =
+    simp (
+    c .body .ensures)
+
+pub is-doji-spec : {M : Type 1} → statement M
+is-doji-spec = tie.close (tie.spec (λ c κs. tt) returns)

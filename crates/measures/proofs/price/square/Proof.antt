@@ -1,0 +1,12 @@
+-- The code is the definition.
+use Rattle.measures.specs.Price.{squareOf}
+use mathlib.Core.Path.{refl}
+use Rattle.measures.proofs.price.square.Statement.{statement}
+use Rattle.measures.proofs.price.square.Tie as tie
+
+returns : tie.Need-returns
+unfolding squareOf
+returns c = refl
+
+pub square-spec : {M : Type 1} → statement M
+square-spec = tie.close (tie.spec returns)

@@ -1,0 +1,31 @@
+-- The bars of the part are the window. Assumes nothing.
+use Prim.Native.Nat.{_-_, min}
+use mathlib.Core.Path.{_∙_}
+use native.Mathlib.Omega.{arith}
+use borrow.Author.Needs.{needs}
+use lib.ListN.{length}
+use Rattle.measures.specs.Bar.{barsOf}
+use Rattle.measures.specs.Window.{upTo}
+use Rattle.measures.proofs.RunLaws.{bars-part}
+use Rattle.measures.proofs.WindowLaws.{upTo-le, window-part}
+use Rattle.measures.proofs.windows.last_bars.Statement.{statement}
+use Rattle.measures.proofs.windows.last_bars.Tie as tie
+
+sub-part : tie.Need-sub-part
+sub-part c = search needs
+
+part-requires : tie.Need-part-requires
+part-requires c κs =
+    let counted = c .before .before in
+    omega (arith, c .before .up-to .ensures, counted .count .ensures, upTo-le (counted .count .result) (counted .before .before .args .di))
+
+returns : tie.Need-returns
+returns c =
+    let args = c .before .before .before .before .before .args in
+    let bars = barsOf (args .prices .now) in
+    let p = upTo (length bars) (args .di) in
+    simp (c .part .ensures, c .before .least .ensures, c .before .before .up-to .ensures, c .before .before .before .count .ensures) (bars-part (args .prices .now) (p - min (args .n) p) p ∙ window-part bars (args .di) (args .n))
+
+pub last-bars-spec : {M : Type 1} → statement M
+last-bars-spec =
+    tie.close (tie.spec (λ c κs. tt) (λ c κs. tt) (λ c κs. tt) sub-part part-requires returns)

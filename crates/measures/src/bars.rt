@@ -1,0 +1,39 @@
+// One bar and its measures.
+ghost use mathlib.Core.Path.{_≡_};
+ghost use Rattle.measures.specs.Bar.{bodyOf, upperOf, lowerOf, dojiOf};
+use crate::price;
+
+pub struct Bar {
+    pub open: f64,
+    pub close: f64,
+    pub high: f64,
+    pub low: f64,
+}
+
+pub fn body(b: Bar) -> f64
+    ensures { λ r. ⌜ r ≡ bodyOf b ⌝ }
+{
+    price::abs(b.open - b.close)
+}
+
+// The upper shadow.
+pub fn upper(b: Bar) -> f64
+    ensures { λ r. ⌜ r ≡ upperOf b ⌝ }
+{
+    b.high - price::max(b.open, b.close)
+}
+
+// The lower shadow.
+pub fn lower(b: Bar) -> f64
+    ensures { λ r. ⌜ r ≡ lowerOf b ⌝ }
+{
+    price::min(b.open, b.close) - b.low
+}
+
+// The source's check_szx: a flat bar is no doji.
+pub fn is_doji(b: Bar, th: f64) -> bool
+    ensures { λ r. ⌜ r ≡ dojiOf th b ⌝ }
+{
+    ((b.close == b.open) & (b.high != b.low))
+        | ((b.close != b.open) & ((b.high - b.low) / body(b) > th))
+}

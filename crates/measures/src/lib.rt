@@ -1,0 +1,32 @@
+// Measures of one bar and of a window of bars. A bar is four f64 prices; a run of bars is lent as prices, four to a bar: open,
+// close, high, low. All is proved, nothing is assumed, and no public function has a `requires`: each contract is an equation
+// with a definition of specs/, for every input, NaN, infinities and signs of zero included.
+pub mod bars;
+pub mod folds;
+pub mod price;
+pub mod windows;
+
+pub use bars::Bar;
+pub use bars::body;
+pub use bars::is_doji;
+pub use bars::lower;
+pub use bars::upper;
+pub use folds::Column;
+pub use folds::Extremes;
+pub use folds::extremes_of;
+pub use folds::highest;
+pub use folds::in_high_side;
+pub use folds::in_low_side;
+pub use folds::lowest;
+pub use folds::pair_variance;
+pub use folds::variance;
+pub use price::abs;
+pub use price::is_nan;
+pub use price::max;
+pub use price::min;
+pub use price::pick;
+pub use windows::back;
+pub use windows::count;
+pub use windows::last_bars;
+pub use windows::up_to;
+pub use windows::window;
