@@ -1,7 +1,7 @@
 -- Folds over a column: one turn of a loop, and what a fold gives when an older bar comes in front. Assumes nothing.
 use Prim.Native.Nat.{ℕ, _+_, _<_, _≤_}
 use mathlib.Core.Path.{_≡_, refl, ap, _∙_}
-use mathlib.Core.Bool.{true, false, cond}
+use mathlib.Core.Bool.{Bool, true, false, cond, _&&_, and-true, and-assoc}
 use mathlib.Core.List.{List, [], _∷_, foldl}
 use lib.ListN.{length, getD, drop}
 use lib.Ieee.{Float, nan, inf, fin, lt, isNan}
@@ -9,7 +9,7 @@ use Rattle.measures.specs.declared.bars.Bar.{Bar}
 use Rattle.measures.specs.declared.folds.Column.{Column}
 use Rattle.measures.specs.Price.{maxOf, minOf}
 use Rattle.measures.specs.Bar.{noBar}
-use Rattle.measures.specs.Fold.{priceOf, columnOf, highestOf, lowestOf}
+use Rattle.measures.specs.Fold.{priceOf, columnOf, highestOf, lowestOf, everyOf}
 use Rattle.measures.proofs.Order.{max-assoc, min-assoc}
 use Rattle.measures.proofs.RunLaws.{from-bar, past-bars}
 
@@ -23,6 +23,16 @@ module _ (f : Float → Float → Float) (c : Column) (bars : List Bar) (i : ℕ
   pub turned : (x : Float) → length bars ≤ i → foldl f x (columnOf c (drop i bars)) ≡ x
   unfolding columnOf
   turned x h = rw (past-bars bars i h)
+
+-- the same of a test of every price
+module _ (t : Float → Bool) (c : Column) (bars : List Bar) (i : ℕ) (ok : Bool) where
+  pub test-turn : i < length bars → ((ok && t (priceOf c (getD bars i noBar))) && everyOf t (columnOf c (drop (i + 1) bars))) ≡ (ok && everyOf t (columnOf c (drop i bars)))
+  unfolding columnOf everyOf
+  test-turn h = rw (from-bar bars i h) (and-assoc ok _ _)
+
+  pub test-turned : length bars ≤ i → (ok && everyOf t (columnOf c (drop i bars))) ≡ ok
+  unfolding columnOf everyOf
+  test-turned h = rw (past-bars bars i h) (and-true ok)
 
 -- from a value that is no NaN one comparison is enough
 pub max-of-known : (a b : Float) → isNan a ≡ false → cond (lt a b) b a ≡ maxOf a b

@@ -4,7 +4,7 @@ use Prim.Native.Nat.{ℕ, zero, suc, _+_, _-_, _/_, _%_, _<_, _≤_, min}
 use mathlib.Core.Path.{_≡_, refl, sym, _∙_}
 use mathlib.Core.Logic.{_⊎_, inl, inr, ⊎-elim}
 use mathlib.Core.Bool.{Bool, true, false, cond}
-use mathlib.Core.List.{List, _++_}
+use mathlib.Core.List.{List, [], _∷_, _++_}
 use native.Mathlib.Omega.{arith}
 use lib.Dec.{leb, ltb, eqb}
 use lib.ListN.{length, take, drop, length-drop}
@@ -13,8 +13,8 @@ use lib.Ieee.{Float}
 use borrow.Author.Tests.{eqb-false, ltb-true, ltb-false, leb-true, leb-false, eq-eqb, ne-eqb, lt-ltb, le-ltb}
 use Rattle.measures.specs.declared.bars.Bar.{Bar}
 use Rattle.measures.specs.Bar.{barsOf}
-use Rattle.measures.specs.Window.{upTo, newest, windowOf, pricesFrom, partOf}
-use Rattle.measures.proofs.RunLaws.{length-bars, bars-part}
+use Rattle.measures.specs.Window.{upTo, newest, windowOf, backOf, pricesFrom, partOf}
+use Rattle.measures.proofs.RunLaws.{length-bars, bars-part, from-bar, past-bars}
 
 -- ---- p
 
@@ -77,6 +77,23 @@ length-window history di n =
 pub window-one : (bars : List Bar) (n : ℕ) → windowOf bars 1 n ≡ newest n bars
 unfolding windowOf
 window-one bars n = simp (upTo-one (length bars), take-length bars)
+
+-- the newest bars, one more, none, and all
+pub newest-more : (bars : List Bar) (i : ℕ) → i < length bars → newest (i + 1) bars ≡ backOf bars (i + 1) ∷ newest i bars
+unfolding newest backOf
+newest-more bars i h =
+    let at = length bars - (i + 1) in
+    let e : length bars - min (i + 1) (length bars) ≡ at = omega arith in
+    let f : at + 1 ≡ length bars - i = omega arith in
+    rw (from-bar bars at (omega arith), f, e)
+
+pub newest-none : (bars : List Bar) → newest 0 bars ≡ []
+unfolding newest
+newest-none bars = past-bars bars (length bars - 0) (omega arith)
+
+pub newest-all : (bars : List Bar) → newest (length bars) bars ≡ bars
+unfolding newest
+newest-all bars = let e : length bars - length bars ≡ 0 = omega arith in rw e
 
 -- ---- reach
 

@@ -1,15 +1,16 @@
 -- "The measures" of a window: folds, variance, quarter. Folds begin at minus or plus infinity and go from the oldest bar.
-use mathlib.Core.Bool.{Bool}
-use mathlib.Core.List.{List, foldl, map}
+use mathlib.Core.Bool.{Bool, true, false, _&&_}
+use mathlib.Core.List.{List, [], _∷_, foldl, map}
 use lib.IntN.{pos}
 use lib.ListN.{length}
-use lib.Ieee.{Float, binary64, inf, ofInt, add, sub, mul, div, le}
-use mathlib.Core.Bool.{true, false}
+use lib.Ieee.{Float, binary64, inf, ofInt, add, sub, mul, div, lt, le}
 use Rattle.measures.specs.declared.bars.Bar.{Bar}
 use Rattle.measures.specs.declared.folds.Column.{Column}
 use Rattle.measures.specs.declared.folds.Column.the-variants.{Open, Close, High, Low}
 use Rattle.measures.specs.declared.folds.Fold.{Fold}
 use Rattle.measures.specs.declared.folds.Fold.the-variants.{Highest, Lowest, Sum, Squares}
+use Rattle.measures.specs.declared.folds.Test.{Test}
+use Rattle.measures.specs.declared.folds.Test.the-variants.{Above, Below}
 use Rattle.measures.specs.declared.folds.Extremes.{Extremes}
 use Rattle.measures.specs.Price.{zero, aQuarter, maxOf, minOf, squareOf}
 
@@ -52,6 +53,16 @@ meanOf xs = div binary64 (sumOf xs) (sizeOf xs)
 
 unfoldable pub varianceOf : List Float → Float
 varianceOf xs = div binary64 (sumOf (map (λ x. squareOf (sub binary64 x (meanOf xs))) xs)) (sizeOf xs)
+
+-- ---- tests of every price
+
+unfoldable pub everyOf : (Float → Bool) → List Float → Bool
+everyOf t [] = true
+everyOf t (x ∷ xs) = t x && everyOf t xs
+
+abbrev pub testOf : Test → Float → Bool
+testOf (Above bound) x = lt bound x
+testOf (Below bound) x = lt x bound
 
 -- ---- quarter
 

@@ -13,6 +13,8 @@ pub use bars::lower;
 pub use bars::upper;
 pub use folds::Column;
 pub use folds::Extremes;
+pub use folds::Test;
+pub use folds::every;
 pub use folds::extremes_of;
 pub use folds::highest;
 pub use folds::in_high_side;

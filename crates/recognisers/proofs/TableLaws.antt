@@ -1,0 +1,36 @@
+-- The table of the recognisers: past its end the pair is A; only 12 reads its gate; over prices the pair is the history's.
+-- Assumes nothing.
+use Prim.Native.Nat.{ℕ, zero, suc, _≤_, zero-le}
+use mathlib.Core.Path.{_≡_, refl}
+use mathlib.Core.List.{List}
+use native.Mathlib.Omega.{arith}
+use borrow.Author.Tests.{ne-eqb, le-ltb}
+use lib.ListN.{length, List·getD-eq-default}
+use Rattle.measures.specs.declared.bars.Bar.{Bar}
+use Rattle.recognisers.specs.declared.thresholds.Thresholds.{Thresholds}
+use Rattle.recognisers.specs.Label.{pairA}
+use Rattle.recognisers.specs.Number.{recognisers, gated}
+use Rattle.recognisers.specs.Table.{rows, rowOf, noRow, judgeOf}
+
+past-table : (k : ℕ) → recognisers ≤ k → rowOf k ≡ noRow
+unfolding rowOf rows
+past-table k h = List·getD-eq-default rows noRow h
+
+-- past the table the pair is A
+pub judge-past : (k : ℕ) (t : Thresholds) (len p : ℕ) (w gate : List Bar) → recognisers ≤ k → judgeOf k t len p w gate ≡ pairA
+unfolding judgeOf
+judge-past k t len p w gate h = simp (past-table k h, le-ltb p 0 zero-le, ne-eqb k gated (λ e. omega (arith, h)))
+
+-- a recogniser other than 12 reads neither the gate's window nor len
+pub judge-gateless : (k : ℕ) (t : Thresholds) (len len' p : ℕ) (w gate gate' : List Bar) → (k ≡ gated → ⊥) → judgeOf k t len p w gate ≡ judgeOf k t len' p w gate'
+unfolding judgeOf
+judge-gateless k t len len' p w gate gate' other = simp (ne-eqb k gated other)
+
+-- what is none of 0, 1, .. n - 1, as the arms of a match say, is n or more
+abbrev pub Apart : ℕ → ℕ → Type 0
+Apart zero k = Unit {0}
+Apart (suc n) k = Apart n k × (k ≡ n → ⊥)
+
+pub apart-from : (n k : ℕ) → Apart n k → n ≤ k
+apart-from zero k r = zero-le
+apart-from (suc n) k r = let h : n ≤ k = apart-from n k (r .0) in let g : k ≡ n → ⊥ = r .1 in omega arith

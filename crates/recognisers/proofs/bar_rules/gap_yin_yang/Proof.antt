@@ -1,0 +1,25 @@
+-- The code is the definition.
+use Rattle.recognisers.specs.BarRule.{gapYinYang}
+use borrow.Author.Needs.{needs}
+use Rattle.recognisers.proofs.bar_rules.gap_yin_yang.Statement.{statement}
+use Rattle.recognisers.proofs.bar_rules.gap_yin_yang.Tie as tie
+
+returns : tie.Need-returns
+unfolding gapYinYang
+returns c =
+    simp (
+      c .pick2 .ensures,
+      c .before .is-gap-up .ensures,
+      c .before .before .pick .ensures,
+      c .before .before .before .is-gap-down .ensures,
+    )
+
+pub gap-yin-yang-spec : {M : Type 1} → statement M
+gap-yin-yang-spec =
+    tie.close
+    (tie.spec
+    (λ c κs. tt)
+    (λ c κs. tt)
+    (λ c κs. tt)
+    (λ c κs. tt)
+    returns)

@@ -1,0 +1,14 @@
+-- The code is the definition.
+use Rattle.recognisers.specs.BarRule.{gateShut}
+use borrow.Author.Needs.{needs}
+use Rattle.recognisers.proofs.bar_rules.is_gate_shut.Statement.{statement}
+use Rattle.recognisers.proofs.bar_rules.is_gate_shut.Tie as tie
+
+returns : tie.Need-returns
+unfolding gateShut
+returns c = simp (c .before .before .before .extremes-of .ensures)
+
+pub is-gate-shut-spec : {M : Type 1} → statement M
+is-gate-shut-spec = tie.close (tie.spec
+    (λ c κs. tt)
+    returns)

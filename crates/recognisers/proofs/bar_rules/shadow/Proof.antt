@@ -1,0 +1,21 @@
+-- The code is the definition.
+use Rattle.recognisers.specs.BarRule.{longShadow}
+use borrow.Author.Needs.{needs}
+use Rattle.recognisers.proofs.bar_rules.shadow.Statement.{statement}
+use Rattle.recognisers.proofs.bar_rules.shadow.Tie as tie
+
+returns : tie.Need-returns
+unfolding longShadow
+returns c =
+    simp (
+      c .max .ensures,
+      c .before .lower .ensures,
+      c .before .before .upper .ensures,
+    )
+
+pub shadow-spec : {M : Type 1} → statement M
+shadow-spec = tie.close (tie.spec
+    (λ c κs. tt)
+    (λ c κs. tt)
+    (λ c κs. tt)
+    returns)

@@ -1,0 +1,24 @@
+-- The code is the definition.
+use Rattle.recognisers.specs.GrowingRule.{joined}
+use borrow.Author.Needs.{needs}
+use Rattle.recognisers.proofs.growing_rules.join.Statement.{statement}
+use Rattle.recognisers.proofs.growing_rules.join.Tie as tie
+
+returns : tie.Need-returns
+unfolding joined
+returns c =
+    simp (
+      c .before .is-nan .ensures,
+      c .before .before .pick3 .ensures,
+      c .before .before .before .pick2 .ensures,
+      c .before .before .before .before .before .pick .ensures,
+    )
+
+pub join-spec : {M : Type 1} → statement M
+join-spec =
+    tie.close (tie.spec
+    (λ c κs. tt)
+    (λ c κs. tt)
+    (λ c κs. tt)
+    (λ c κs. tt)
+    returns)

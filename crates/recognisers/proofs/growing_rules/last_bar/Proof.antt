@@ -1,0 +1,14 @@
+-- The code is the definition.
+use Rattle.recognisers.specs.GrowingRule.{lastOf}
+use borrow.Author.Needs.{needs}
+use Rattle.recognisers.proofs.growing_rules.last_bar.Statement.{statement}
+use Rattle.recognisers.proofs.growing_rules.last_bar.Tie as tie
+
+returns : tie.Need-returns
+unfolding lastOf
+returns c = simp (c .back .ensures)
+
+pub last-bar-spec : {M : Type 1} → statement M
+last-bar-spec = tie.close (tie.spec
+    (λ c κs. tt)
+    returns)

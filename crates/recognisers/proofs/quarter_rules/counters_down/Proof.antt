@@ -1,0 +1,12 @@
+-- The code is the definition.
+use borrow.Author.Needs.{needs}
+use Rattle.recognisers.proofs.quarter_rules.counters_down.Statement.{statement}
+use Rattle.recognisers.proofs.quarter_rules.counters_down.Tie as tie
+
+returns : tie.Need-returns
+returns c = simp (c .before .before .before .before .before .in-high-side .ensures)
+
+pub counters-down-spec : {M : Type 1} → statement M
+counters-down-spec = tie.close (tie.spec
+    (λ c κs. tt)
+    returns)

@@ -1,0 +1,99 @@
+-- "Why a call is refused": the refusals' numbers, when each is true, and the plain call, which tries 1 to 5.
+use Prim.Native.Nat.{ℕ, _%_}
+use mathlib.Core.Bool.{Bool, cond, not}
+use mathlib.Core.List.{List, [], _∷_}
+use lib.Dec.{ltb, leb, eqb}
+use lib.ListN.{length}
+use lib.Ieee.{Float}
+use Rattle.measures.specs.declared.bars.Bar.{Bar}
+use Rattle.measures.specs.Bar.{barsOf}
+use Rattle.recognisers.specs.declared.thresholds.Thresholds.{Thresholds}
+use Rattle.recognisers.specs.declared.call.Refusal.{Refusal}
+use Rattle.recognisers.specs.declared.call.Refusal.the-variants.{UnknownRecogniser, ZeroOffset, BadThreshold, BrokenBars, TooManyBars, ShortSheet, FarLook, BadLine}
+use Rattle.recognisers.specs.declared.call.Verdict.{Verdict}
+use Rattle.recognisers.specs.declared.call.Verdict.the-variants.{Accepted, Denied}
+use Rattle.recognisers.specs.declared.call.Answer.{Answer}
+use Rattle.recognisers.specs.declared.call.Answer.the-variants.{Labels, Refused}
+use Rattle.recognisers.specs.Label.{codeOf}
+use Rattle.recognisers.specs.Threshold.{validOf}
+use Rattle.recognisers.specs.Number.{recognisers, mostBars}
+use Rattle.recognisers.specs.Table.{pairAt}
+
+-- ---- the numbers
+
+abbrev pub refusalNumber : Refusal → ℕ
+refusalNumber UnknownRecogniser = 1
+refusalNumber ZeroOffset = 2
+refusalNumber BadThreshold = 3
+refusalNumber BrokenBars = 4
+refusalNumber TooManyBars = 5
+refusalNumber ShortSheet = 6
+refusalNumber FarLook = 7
+refusalNumber BadLine = 8
+
+-- ---- when each is true; 6 to 8 are tried by calls of the layers above
+
+-- a refusal with the test that makes it true
+pub record Tried : Type 0 where
+  pub met : Bool
+  pub why : Refusal
+
+abbrev pub tried : Bool → Refusal → Tried
+tried b r = record { met = b; why = r }
+
+-- 1. The recogniser is above 17: the numbers are those below 18.
+abbrev pub unknownRecogniser : ℕ → Tried
+unknownRecogniser k = tried (leb recognisers k) UnknownRecogniser
+
+-- 2. The offset is 0.
+abbrev pub zeroOffset : ℕ → Tried
+zeroOffset di = tried (eqb di 0) ZeroOffset
+
+-- 3. A threshold is outside its limits or NaN.
+abbrev pub badThreshold : Thresholds → Tried
+badThreshold t = tried (not (validOf t)) BadThreshold
+
+-- 4. The prices or bytes don't make whole bars.
+abbrev pub brokenBars : Bool → Tried
+brokenBars whole = tried (not whole) BrokenBars
+
+-- 5. The history, N, or N with the feed, passes 1,000,000 bars.
+abbrev pub tooManyBars : ℕ → Tried
+tooManyBars count = tried (ltb mostBars count) TooManyBars
+
+-- each call tries those that concern it, in this order, gives the first that is true and none otherwise
+unfoldable pub firstTrue : List Tried → Verdict
+firstTrue [] = Accepted
+firstTrue (x ∷ xs) = cond (x .met) (Denied (x .why)) (firstTrue xs)
+
+-- ---- the plain call
+
+-- what a call answers to its verdict: the refusal alone, or the pair
+abbrev pub answerTo : Verdict → Answer → Answer
+answerTo Accepted a = a
+answerTo (Denied r) a = Refused r
+
+-- whole: what the history was lent in makes whole bars
+unfoldable pub plainVerdict : ℕ → ℕ → Thresholds → Bool → ℕ → Verdict
+plainVerdict k di t whole count =
+    firstTrue (unknownRecogniser k ∷ zeroOffset di ∷ badThreshold t ∷ brokenBars whole ∷ tooManyBars count ∷ [])
+
+-- the answer of a plain call: recogniser, offset, thresholds, history
+unfoldable pub plainAnswer : ℕ → ℕ → Thresholds → Bool → List Bar → Answer
+plainAnswer k di t whole history =
+    answerTo (plainVerdict k di t whole (length history)) (Labels (pairAt k t (length history) history di))
+
+-- over lent prices, four to a bar
+unfoldable pub recogniseOf : ℕ → ℕ → Thresholds → List Float → Answer
+recogniseOf k di t prices = plainAnswer k di t (eqb (length prices % 4) 0) (barsOf prices)
+
+-- ---- this paper's number and values for each answer
+
+-- the refusal's number, 0 if there is none; and the codes of v1 and v2, which a refusal does not have
+abbrev pub refusalIn : Answer → ℕ
+refusalIn (Labels pair) = 0
+refusalIn (Refused r) = refusalNumber r
+
+abbrev pub codesIn : Answer → List ℕ
+codesIn (Labels pair) = codeOf (pair .v1) ∷ codeOf (pair .v2) ∷ []
+codesIn (Refused r) = []

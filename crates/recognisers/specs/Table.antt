@@ -1,0 +1,92 @@
+-- "The eighteen": the table, and the pair at an offset of a history.
+use Prim.Native.Nat.{ℕ}
+use mathlib.Core.Bool.{Bool, cond, _&&_}
+use mathlib.Core.List.{List, [], _∷_}
+use lib.Dec.{ltb, leb, eqb}
+use lib.ListN.{getD}
+use Rattle.measures.specs.declared.bars.Bar.{Bar}
+use Rattle.measures.specs.declared.folds.Column.the-variants.{Close}
+use Rattle.measures.specs.Window.{upTo, windowOf, backOf}
+use Rattle.measures.specs.Fold.{columnOf, highestOf}
+use Rattle.recognisers.specs.declared.label.Pair.{Pair}
+use Rattle.recognisers.specs.declared.thresholds.Thresholds.{Thresholds}
+use Rattle.recognisers.specs.Label.{pairA, pairB}
+use Rattle.recognisers.specs.Number.{gated, reachBars, quarterBars, gateEnd}
+use Rattle.recognisers.specs.QuarterRule.{quarterOf, quarterExtremes, sanXingXian, tenMo, fenShouXian, zhuHuoXian, fanJiXian}
+use Rattle.recognisers.specs.BarRule.{wuYunGaiDing, ciTou, sanFaV20221115, xingXian, yunXian, pingTou, twoCrow, gateShut, threeCrow, szx, sanSzx, gapYinYang}
+use Rattle.recognisers.specs.GrowingRule.{sanFaV20221118, taXing}
+
+-- a recogniser: the p from which its rule holds, the short pair below that p, and the rule, over the thresholds, whether p is 22 or
+-- more, and the window of the last 22 bars up to the judged one
+pub record Row : Type 0 where
+  pub from : ℕ
+  pub short : Pair
+  pub rule : Thresholds → Bool → List Bar → Pair
+
+abbrev pub row : ℕ → Pair → (Thresholds → Bool → List Bar → Pair) → Row
+row p s r = record { from = p; short = s; rule = r }
+
+-- b1 is the judged bar, b2 the one before
+abbrev pub b1 : List Bar → Bar
+b1 w = backOf w 1
+
+abbrev pub b2 : List Bar → Bar
+b2 w = backOf w 2
+
+abbrev pub b3 : List Bar → Bar
+b3 w = backOf w 3
+
+abbrev pub b4 : List Bar → Bar
+b4 w = backOf w 4
+
+abbrev pub b5 : List Bar → Bar
+b5 w = backOf w 5
+
+abbrev pub b6 : List Bar → Bar
+b6 w = backOf w 6
+
+-- the highest of the ten closes that end before b2
+abbrev pub tenCloses : List Bar → List Bar
+tenCloses w = windowOf w 3 10
+
+-- the rows in the order of the numbers
+unfoldable pub rows : List Row
+rows =
+    row 1 pairA (λ t deep w. sanXingXian (t .th0) (quarterOf deep w) (b1 w)) ∷
+    row 2 pairA (λ t deep w. tenMo (quarterOf deep w) (b1 w) (b2 w)) ∷
+    row 12 pairB (λ t deep w. wuYunGaiDing (t .z2) (t .th2) (highestOf (columnOf Close (tenCloses w))) (b1 w) (b2 w)) ∷
+    row 16 pairB (λ t deep w. ciTou (t .z3) (t .th3) (b1 w) (b2 w)) ∷
+    row 5 pairA (λ t deep w. sanFaV20221118 w) ∷
+    row 6 pairA (λ t deep w. sanFaV20221115 (t .zdf5) (b1 w) (b2 w) (b3 w) (b4 w) (b5 w) (b6 w)) ∷
+    row 3 pairB (λ t deep w. xingXian (t .th6) (b1 w) (b2 w) (b3 w)) ∷
+    row 2 pairA (λ t deep w. fenShouXian (t .zdf7) (quarterOf deep w) (b1 w) (b2 w)) ∷
+    row 1 pairA (λ t deep w. zhuHuoXian (t .th8) (t .zf8) (quarterOf deep w) (b1 w)) ∷
+    row 2 pairB (λ t deep w. yunXian (b1 w) (b2 w)) ∷
+    row 2 pairB (λ t deep w. pingTou (t .th10) (b1 w) (b2 w)) ∷
+    row 3 pairB (λ t deep w. twoCrow (b1 w) (b2 w) (b3 w)) ∷
+    row 3 pairA (λ t deep w. threeCrow (b1 w) (b2 w) (b3 w)) ∷
+    row 11 pairA (λ t deep w. szx (t .th13) (b1 w) (b2 w)) ∷
+    row 8 pairB (λ t deep w. sanSzx (t .th14) (b1 w) (b2 w) (b3 w) (b4 w) (b5 w)) ∷
+    row 21 pairB (λ t deep w. fanJiXian (quarterExtremes w) (b3 w) (b2 w) (b1 w)) ∷
+    row 7 pairB (λ t deep w. gapYinYang (b1 w) (b2 w) (b3 w)) ∷
+    row 5 pairA (λ t deep w. taXing w) ∷
+    []
+
+-- past the table the pair is A
+abbrev pub noRow : Row
+noRow = row 0 pairA (λ t deep w. pairA)
+
+unfoldable pub rowOf : ℕ → Row
+rowOf k = getD rows k noRow
+
+-- recogniser k over the window w that ends with the judged bar, of which p bars lie up to it: below the p given, the short pair; of 12,
+-- A where its gate is shut, which reads len and a window of its own; else the rule
+unfoldable pub judgeOf : ℕ → Thresholds → ℕ → ℕ → List Bar → List Bar → Pair
+judgeOf k t len p w gate =
+    cond (ltb p (rowOf k .from)) (rowOf k .short)
+    (cond (eqb k gated && gateShut len gate (b3 w)) pairA (rowOf k .rule t (leb reachBars p) w))
+
+-- the pair at offset di of a history of len bars, of which at least the newest are given: p counts the bars up to the judged one, the
+-- window has the last 22 of them, and the gate's 20 bars end third from the newest
+unfoldable pub pairAt : ℕ → Thresholds → ℕ → List Bar → ℕ → Pair
+pairAt k t len history di = judgeOf k t len (upTo len di) (windowOf history di reachBars) (windowOf history gateEnd quarterBars)

@@ -1,0 +1,85 @@
+// The plain call, and why a call is refused.
+ghost use mathlib.Core.Path.{_≡_};
+ghost use Rattle.recognisers.specs.Refusal.{refusalNumber, plainVerdict, recogniseOf};
+use crate::label::Pair;
+use crate::table;
+use crate::thresholds::Thresholds;
+
+// Why a call is refused, in the order in which it is tried.
+pub enum Refusal {
+    UnknownRecogniser,
+    ZeroOffset,
+    BadThreshold,
+    BrokenBars,
+    TooManyBars,
+    ShortSheet,
+    FarLook,
+    BadLine,
+}
+
+// Whether a call is refused.
+pub enum Verdict {
+    Accepted,
+    Denied(Refusal),
+}
+
+// What a call answers.
+pub enum Answer {
+    Labels(Pair),
+    Refused(Refusal),
+}
+
+// The number of a refusal.
+pub fn refusal_number(r: Refusal) -> u32
+    ensures { λ r'. ⌜ r' ≡ refusalNumber r ⌝ }
+{
+    match r {
+        Refusal::UnknownRecogniser => 1,
+        Refusal::ZeroOffset => 2,
+        Refusal::BadThreshold => 3,
+        Refusal::BrokenBars => 4,
+        Refusal::TooManyBars => 5,
+        Refusal::ShortSheet => 6,
+        Refusal::FarLook => 7,
+        Refusal::BadLine => 8,
+    }
+}
+
+// The first of the refusals 1 to 5 that is true of a plain call. whole: what the history was lent in makes whole bars.
+pub fn plain_verdict(k: u32, di: u32, t: Thresholds, whole: bool, count: usize) -> Verdict
+    ensures { λ r. ⌜ r ≡ plainVerdict k di t whole count ⌝ }
+{
+    if 18 <= k {
+        return Verdict::Denied(Refusal::UnknownRecogniser);
+    }
+    if di == 0 {
+        return Verdict::Denied(Refusal::ZeroOffset);
+    }
+    let valid = t.is_valid();
+    if !valid {
+        return Verdict::Denied(Refusal::BadThreshold);
+    }
+    if !whole {
+        return Verdict::Denied(Refusal::BrokenBars);
+    }
+    if 1000000 < count {
+        return Verdict::Denied(Refusal::TooManyBars);
+    }
+    Verdict::Accepted
+}
+
+// The plain call: the pair of a recogniser at an offset of a history of lent prices, or the first refusal that is true.
+pub fn recognise(k: u32, di: u32, t: Thresholds, prices: &[f64]) -> Answer
+    ensures { λ r. ⌜ r ≡ recogniseOf k di t (now (prices .entry)) ⌝ }
+{
+    let len = measures::count(prices);
+    match plain_verdict(k, di, t, prices.len() % 4 == 0, len) {
+        Verdict::Denied(why) => Answer::Refused(why),
+        Verdict::Accepted => {
+            let p = measures::up_to(len, di as usize);
+            let w = measures::last_bars(prices, di as usize, 22);
+            let gate = measures::last_bars(prices, 3, 20);
+            Answer::Labels(table::judge(k, t, len, p, w, gate))
+        }
+    }
+}

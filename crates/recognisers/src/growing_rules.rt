@@ -1,0 +1,260 @@
+// The recognisers that try growing windows: 4 and 17.
+ghost use mathlib.Core.Path.{_≡_};
+ghost use Prim.Native.Nat.{_-_, _≤_, _<_};
+ghost use mathlib.Core.List.{[]};
+ghost use Rattle.measures.specs.Bar.{barsOf};
+ghost use Rattle.recognisers.specs.GrowingRule.{sizeLabel, firstMatch, firstOf, lastOf, innerOf, risesOf, fallsOf, threeMethods, sanFaV20221118, leadersOf, joined, endsLead, topOf, bottomOf, tower as towerOf, checkOf, taXing};
+use crate::label::Label;
+use crate::label::Pair;
+use crate::label::code;
+use crate::label::pair_a;
+use crate::label::pick;
+use measures::Bar;
+use measures::Column;
+use measures::Test;
+
+// What a window is tried for, where the source has a closure.
+pub enum Shape {
+    ThreeMethods,
+    Tower,
+}
+
+const SIZES: [Label; 5] = [
+    Label::Bars5,
+    Label::Bars6,
+    Label::Bars7,
+    Label::Bars8,
+    Label::Bars9,
+];
+
+// The label of a window of n bars.
+fn size_label(n: usize) -> Label
+    requires { ⌜ (5 ≤ n) × (n < 10) ⌝ }
+    ensures { λ r. ⌜ r ≡ sizeLabel n ⌝ }
+{
+    SIZES[n - 5]
+}
+
+// The first and the last bar of a window, and those between them.
+fn first_bar(s: &[f64]) -> Bar
+    ensures { λ r. ⌜ r ≡ firstOf (barsOf (now (s .entry))) ⌝ }
+{
+    measures::back(s, measures::count(s))
+}
+
+fn last_bar(s: &[f64]) -> Bar
+    ensures { λ r. ⌜ r ≡ lastOf (barsOf (now (s .entry))) ⌝ }
+{
+    measures::back(s, 1)
+}
+
+// a - b, or 0 if b is greater.
+fn minus(a: usize, b: usize) -> usize
+    ensures { λ r. ⌜ r ≡ a - b ⌝ }
+{
+    if a < b { 0 } else { a - b }
+}
+
+fn inner(s: &[f64]) -> &[f64]
+    ensures { λ r. ⌜ barsOf (now r) ≡ innerOf (barsOf (now (s .entry))) ⌝ }
+{
+    measures::last_bars(s, 2, minus(measures::count(s), 2))
+}
+
+// 4: san_fa_v20221118. The ends are tested before the bars between them are folded.
+
+fn rises(s: &[f64]) -> bool
+    ensures { λ r. ⌜ r ≡ risesOf (barsOf (now (s .entry))) ⌝ }
+{
+    let first = first_bar(s);
+    let last = last_bar(s);
+    let ends = (last.close > last.open) & (first.close > first.open) & (last.close > first.high);
+    if ends {
+        let mid = inner(s);
+        let hhv = measures::highest(mid, Column::High);
+        (last.close > hhv)
+            & (hhv > first.high)
+            & (measures::lowest(mid, Column::Low) > first.open)
+            & (first.close > measures::highest(mid, Column::Close))
+    } else {
+        false
+    }
+}
+
+fn falls(s: &[f64]) -> bool
+    ensures { λ r. ⌜ r ≡ fallsOf (barsOf (now (s .entry))) ⌝ }
+{
+    let first = first_bar(s);
+    let last = last_bar(s);
+    let ends = (last.close < last.open) & (first.close < first.open) & (last.close < first.low);
+    if ends {
+        let mid = inner(s);
+        let llv = measures::lowest(mid, Column::Low);
+        (first.low > llv)
+            & (llv > last.close)
+            & (measures::highest(mid, Column::High) < first.open)
+            & (first.close < measures::lowest(mid, Column::Close))
+    } else {
+        false
+    }
+}
+
+fn three_methods(s: &[f64]) -> Label
+    ensures { λ r. ⌜ r ≡ threeMethods (barsOf (now (s .entry))) ⌝ }
+{
+    pick(
+        rises(s),
+        Label::RisingThreeMethods,
+        pick(falls(s), Label::FallingThreeMethods, Label::Other),
+    )
+}
+
+// 17: ta_xing. The ends are tested before the bodies are scanned, and these before the bars between the ends.
+
+// The two greatest bodies of a window, and whether no body is NaN.
+pub struct Leaders {
+    pub first: f64,
+    pub second: f64,
+    pub known: bool,
+}
+
+fn no_leaders() -> Leaders
+    ensures { λ r. ⌜ r ≡ leadersOf [] ⌝ }
+{
+    let nan = measures::price::not_a_number();
+    Leaders {
+        first: nan,
+        second: nan,
+        known: true,
+    }
+}
+
+// An older bar's body joins.
+fn join(l: Leaders, x: f64) -> Leaders
+    ensures { λ r. ⌜ r ≡ joined x l ⌝ }
+{
+    let behind = x < l.first;
+    Leaders {
+        first: measures::pick(behind, l.first, x),
+        second: measures::pick(behind, measures::pick(x < l.second, l.second, x), l.first),
+        known: !measures::is_nan(x) & l.known,
+    }
+}
+
+// One scan of the bodies, from the newest bar.
+fn leaders_of(s: &[f64]) -> Leaders
+    ensures { λ r. ⌜ r ≡ leadersOf (barsOf (now (s .entry))) ⌝ }
+{
+    let n = measures::count(s);
+    let mut l = no_leaders();
+    let mut i = 0;
+    while i < n {
+        i += 1;
+        l = join(l, measures::body(measures::back(s, i)));
+    }
+    l
+}
+
+// Whether the smaller of the end bodies is at least the last but one of the bodies in non-falling order.
+fn do_ends_lead(s: &[f64]) -> bool
+    ensures { λ r. ⌜ r ≡ endsLead (barsOf (now (s .entry))) ⌝ }
+{
+    let l = leaders_of(s);
+    let first = measures::body(first_bar(s));
+    let last = measures::body(last_bar(s));
+    l.known & (l.second <= measures::min(first, last))
+}
+
+fn is_top(s: &[f64]) -> bool
+    ensures { λ r. ⌜ r ≡ topOf (barsOf (now (s .entry))) ⌝ }
+{
+    let first = first_bar(s);
+    let last = last_bar(s);
+    let turns = (first.close > first.open) & (last.close < last.open);
+    if turns {
+        let lead = do_ends_lead(s);
+        if lead {
+            let mid = inner(s);
+            let bound = measures::max(first.open, last.close);
+            let above = measures::every(mid, Column::Low, Test::Above(bound));
+            if above {
+                return measures::variance(mid, Column::High) < 0.5;
+            }
+        }
+    }
+    false
+}
+
+fn is_bottom(s: &[f64]) -> bool
+    ensures { λ r. ⌜ r ≡ bottomOf (barsOf (now (s .entry))) ⌝ }
+{
+    let first = first_bar(s);
+    let last = last_bar(s);
+    let turns = (first.close < first.open) & (last.close > last.open);
+    if turns {
+        let lead = do_ends_lead(s);
+        if lead {
+            let mid = inner(s);
+            let bound = measures::min(first.open, last.close);
+            let below = measures::every(mid, Column::High, Test::Below(bound));
+            if below {
+                return measures::variance(mid, Column::Low) < 0.5;
+            }
+        }
+    }
+    false
+}
+
+fn tower(s: &[f64]) -> Label
+    ensures { λ r. ⌜ r ≡ towerOf (barsOf (now (s .entry))) ⌝ }
+{
+    pick(
+        is_top(s),
+        Label::Top,
+        pick(is_bottom(s), Label::Bottom, Label::Other),
+    )
+}
+
+// Both
+
+fn check(shape: Shape, s: &[f64]) -> Label
+    ensures { λ r. ⌜ r ≡ checkOf shape (barsOf (now (s .entry))) ⌝ }
+{
+    match shape {
+        Shape::ThreeMethods => three_methods(s),
+        Shape::Tower => tower(s),
+    }
+}
+
+// Windows of 5 bars and up are tried, k of them; the first match gives the label.
+fn first_match(shape: Shape, k: usize, w: &[f64]) -> Pair
+    requires { ⌜ k ≤ 5 ⌝ }
+    ensures { λ r. ⌜ r ≡ firstMatch (checkOf shape) k 5 (barsOf (now (w .entry))) ⌝ }
+{
+    let to = 5 + k;
+    let mut n = 5;
+    while n < to {
+        let t = check(shape, measures::last_bars(w, 1, n));
+        let found = code(t);
+        if found != 0 {
+            return Pair {
+                v1: t,
+                v2: size_label(n),
+            };
+        }
+        n += 1;
+    }
+    pair_a()
+}
+
+pub fn san_fa_v20221118(w: &[f64]) -> Pair
+    ensures { λ r. ⌜ r ≡ sanFaV20221118 (barsOf (now (w .entry))) ⌝ }
+{
+    first_match(Shape::ThreeMethods, 4, w)
+}
+
+pub fn ta_xing(w: &[f64]) -> Pair
+    ensures { λ r. ⌜ r ≡ taXing (barsOf (now (w .entry))) ⌝ }
+{
+    first_match(Shape::Tower, 5, w)
+}

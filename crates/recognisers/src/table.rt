@@ -1,0 +1,95 @@
+// The table of the eighteen: the choice of a recogniser by its number.
+ghost use mathlib.Core.Path.{_≡_};
+ghost use mathlib.Core.Bool.{cond};
+ghost use lib.Dec.{ltb};
+ghost use Rattle.measures.specs.Bar.{barsOf};
+ghost use Rattle.recognisers.specs.Table.{judgeOf};
+use crate::bar_rules;
+use crate::growing_rules;
+use crate::label::Pair;
+use crate::label::pair_a;
+use crate::label::pair_b;
+use crate::label::pick_pair;
+use crate::quarter_rules;
+use crate::quarter_rules::quarter_of;
+use crate::thresholds::Thresholds;
+use measures::back;
+
+// The short pair below the p given, else the rule's.
+fn row(p: usize, from: usize, short: Pair, full: Pair) -> Pair
+    ensures { λ r. ⌜ r ≡ cond (ltb p from) short full ⌝ }
+{
+    pick_pair(p < from, short, full)
+}
+
+// Recogniser k over the window w that ends with the judged bar, of which p bars of the history lie up to it. The gate of 12
+// reads len and a window of its own. Past the table the pair is A.
+pub fn judge(k: u32, t: Thresholds, len: usize, p: usize, w: &[f64], gate: &[f64]) -> Pair
+    ensures { λ r. ⌜ r ≡ judgeOf k t len p (barsOf (now (w .entry))) (barsOf (now (gate .entry))) ⌝ }
+{
+    let deep = p >= 22;
+    let b1 = back(w, 1);
+    let b2 = back(w, 2);
+    let b3 = back(w, 3);
+    match k {
+        0 => row(
+            p,
+            1,
+            pair_a(),
+            quarter_rules::san_xing_xian(t.th0, quarter_of(deep, w), b1),
+        ),
+        1 => row(
+            p,
+            2,
+            pair_a(),
+            quarter_rules::ten_mo(quarter_of(deep, w), b1, b2),
+        ),
+        2 => row(
+            p,
+            12,
+            pair_b(),
+            bar_rules::wu_yun_gai_ding(t.z2, t.th2, w, b1, b2),
+        ),
+        3 => row(p, 16, pair_b(), bar_rules::ci_tou(t.z3, t.th3, b1, b2)),
+        4 => row(p, 5, pair_a(), growing_rules::san_fa_v20221118(w)),
+        5 => row(
+            p,
+            6,
+            pair_a(),
+            bar_rules::san_fa_v20221115(t.zdf5, b1, b2, b3, back(w, 4), back(w, 5), back(w, 6)),
+        ),
+        6 => row(p, 3, pair_b(), bar_rules::xing_xian(t.th6, b1, b2, b3)),
+        7 => row(
+            p,
+            2,
+            pair_a(),
+            quarter_rules::fen_shou_xian(t.zdf7, quarter_of(deep, w), b1, b2),
+        ),
+        8 => row(
+            p,
+            1,
+            pair_a(),
+            quarter_rules::zhu_huo_xian(t.th8, t.zf8, quarter_of(deep, w), b1),
+        ),
+        9 => row(p, 2, pair_b(), bar_rules::yun_xian(b1, b2)),
+        10 => row(p, 2, pair_b(), bar_rules::ping_tou(t.th10, b1, b2)),
+        11 => row(p, 3, pair_b(), bar_rules::two_crow(b1, b2, b3)),
+        12 => row(p, 3, pair_a(), bar_rules::three_crow(len, gate, b1, b2, b3)),
+        13 => row(p, 11, pair_a(), bar_rules::szx(t.th13, b1, b2)),
+        14 => row(
+            p,
+            8,
+            pair_b(),
+            bar_rules::san_szx(t.th14, b1, b2, b3, back(w, 4), back(w, 5)),
+        ),
+        15 => row(
+            p,
+            21,
+            pair_b(),
+            quarter_rules::fan_ji_xian(quarter_rules::quarter_extremes(w), b3, b2, b1),
+        ),
+        16 => row(p, 7, pair_b(), bar_rules::gap_yin_yang(b1, b2, b3)),
+        17 => row(p, 5, pair_a(), growing_rules::ta_xing(w)),
+        _ => pair_a(),
+    }
+}
