@@ -3,3 +3,4 @@ pub mod KnownLabels
 pub mod Reach
 pub mod TableLaws
 pub mod GrowingLaws
+pub mod ByteLaws

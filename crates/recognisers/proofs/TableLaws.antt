@@ -2,14 +2,17 @@
 -- Assumes nothing.
 use Prim.Native.Nat.{ℕ, zero, suc, _≤_, zero-le}
 use mathlib.Core.Path.{_≡_, refl}
+use mathlib.Core.Bool.{Bool, true, false, cond}
 use mathlib.Core.List.{List}
 use native.Mathlib.Omega.{arith}
-use borrow.Author.Tests.{ne-eqb, le-ltb}
+use borrow.Author.Tests.{eqb-false, ne-eqb, le-ltb}
+use lib.Dec.{eqb}
 use lib.ListN.{length, List·getD-eq-default}
 use Rattle.measures.specs.declared.bars.Bar.{Bar}
+use Rattle.measures.specs.Window.{windowOf}
 use Rattle.recognisers.specs.declared.thresholds.Thresholds.{Thresholds}
 use Rattle.recognisers.specs.Label.{pairA}
-use Rattle.recognisers.specs.Number.{recognisers, gated}
+use Rattle.recognisers.specs.Number.{recognisers, gated, quarterBars, gateEnd}
 use Rattle.recognisers.specs.Table.{rows, rowOf, noRow, judgeOf}
 
 past-table : (k : ℕ) → recognisers ≤ k → rowOf k ≡ noRow
@@ -25,6 +28,15 @@ judge-past k t len p w gate h = simp (past-table k h, le-ltb p 0 zero-le, ne-eqb
 pub judge-gateless : (k : ℕ) (t : Thresholds) (len len' p : ℕ) (w gate gate' : List Bar) → (k ≡ gated → ⊥) → judgeOf k t len p w gate ≡ judgeOf k t len' p w gate'
 unfolding judgeOf
 judge-gateless k t len len' p w gate gate' other = simp (ne-eqb k gated other)
+
+-- so that for such a recogniser no window of the gate need be there
+pub gate-enough : (k : ℕ) (t : Thresholds) (len p : ℕ) (w history : List Bar)
+    → judgeOf k t len p w (windowOf history gateEnd (cond (eqb k gated) quarterBars 0)) ≡ judgeOf k t len p w (windowOf history gateEnd quarterBars)
+gate-enough k t len p w history = go (eqb k gated) refl
+  where
+    go : (b : Bool) → eqb k gated ≡ b → judgeOf k t len p w (windowOf history gateEnd (cond b quarterBars 0)) ≡ judgeOf k t len p w (windowOf history gateEnd quarterBars)
+    go true e = refl
+    go false e = judge-gateless k t len len p w _ _ (eqb-false k gated e)
 
 -- what is none of 0, 1, .. n - 1, as the arms of a match say, is n or more
 abbrev pub Apart : ℕ → ℕ → Type 0

@@ -8,5 +8,4 @@ pub mod BarRule
 pub mod GrowingRule
 pub mod Table
 pub mod Refusal
-
--- pub mod Export
+pub mod Export

@@ -30,7 +30,7 @@ pub enum Answer {
 }
 
 // The number of a refusal.
-pub fn refusal_number(r: Refusal) -> u32
+pub fn refusal_number(r: Refusal) -> u8
     ensures { λ r'. ⌜ r' ≡ refusalNumber r ⌝ }
 {
     match r {

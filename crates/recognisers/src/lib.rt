@@ -3,6 +3,7 @@
 // with a definition of specs/, for every input.
 pub mod bar_rules;
 pub mod call;
+pub mod export;
 pub mod growing_rules;
 pub mod label;
 pub mod quarter_rules;
@@ -12,6 +13,7 @@ pub mod thresholds;
 pub use call::Answer;
 pub use call::Refusal;
 pub use call::recognise;
+pub use export::jcc_label;
 pub use label::Label;
 pub use label::Pair;
 pub use thresholds::Thresholds;

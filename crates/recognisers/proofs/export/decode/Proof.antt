@@ -1,0 +1,32 @@
+-- The prices of the window's bars, read from their place in the bytes. Assumes nothing.
+use Prim.Native.Nat.{_/_}
+use mathlib.Core.Path.{_∙_, ap}
+use native.Mathlib.Omega.{arith}
+use borrow.Author.Needs.{needs}
+use lib.ListN.{length}
+use Rattle.measures.specs.Bar.{barsOf}
+use Rattle.measures.proofs.WindowLaws.{upTo-le}
+use Rattle.recognisers.proofs.ByteLaws.{window-bytes}
+use Rattle.recognisers.proofs.export.decode.Statement.{statement}
+use Rattle.recognisers.proofs.export.decode.Tie as tie
+
+mul-prices-at : tie.Need-mul-prices-at
+mul-prices-at c =
+    let args = c .before .before .before .args in
+    omega (arith, c .before .up-to .ensures, upTo-le (length (args .s .now) / 32) (args .di))
+
+prices-at-requires : tie.Need-prices-at-requires
+prices-at-requires c κs =
+    let args = c .before .before .before .args in
+    omega (arith, c .least .ensures, c .before .up-to .ensures, upTo-le (length (args .s .now) / 32) (args .di))
+
+returns : tie.Need-returns
+returns c =
+    let args = c .before .before .before .before .args in
+    let read = c .prices-at .ensures in
+    (read .0, omega (arith, c .before .least .ensures), ap barsOf (read .1) ∙ simp (c .before .least .ensures, c .before .before .up-to .ensures) (window-bytes (args .s .now) (args .di) (args .n)))
+
+pub decode-spec : {M : Type 1} → statement M
+decode-spec =
+    tie.close
+    (tie.spec (λ c κs. tt) (λ c κs. tt) (λ c. search needs) (λ c. search needs) mul-prices-at prices-at-requires returns)

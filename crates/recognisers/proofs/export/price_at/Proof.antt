@@ -1,0 +1,20 @@
+-- `price_at` meets its contract. Assumes nothing.
+use borrow.Author.Needs.{needs}
+use mathlib.Core.Path.{ap, _∙_}
+use lib.Ieee.{binary64, ofBits}
+use Rattle.recognisers.specs.Export.{priceAt}
+use Rattle.recognisers.proofs.export.price_at.Statement.{statement}
+use Rattle.recognisers.proofs.export.price_at.Tie as tie
+
+word-requires : tie.Need-word-requires
+word-requires c κs = search needs
+
+of-bits-requires : tie.Need-of-bits-requires
+of-bits-requires c κs = search needs
+
+returns : tie.Need-returns
+unfolding priceAt
+returns c = c .of-bits .ensures ∙ ap (ofBits binary64) (c .before .word .ensures)
+
+pub price-at-spec : {M : Type 1} → statement M
+price-at-spec = tie.close (tie.spec word-requires of-bits-requires returns)

@@ -1,0 +1,70 @@
+-- `prices_at` meets its contract. The invariant: the first i places hold the first i prices. Assumes nothing.
+use Prim.Native.Nat.{_≤_, _<_, _-_}
+use mathlib.Core.Path.{_≡_, refl}
+use native.Mathlib.Numerals.{add-one}
+use native.Mathlib.Omega.{arith}
+use lib.ListN.{length, take, length-set}
+use lib.Seq.{take-suc-set}
+use Rattle.recognisers.specs.Export.{pricesAt}
+use Rattle.recognisers.proofs.ByteLaws.{prices-more}
+use Rattle.recognisers.proofs.export.prices_at.Statement.{statement}
+use Rattle.recognisers.proofs.export.prices_at.Tie as tie
+
+abbrev Inv-loop : tie.InvT-loop
+Inv-loop s at n out₀ i₀ out i = (i ≤ n) × (length out ≡ 88) × (take i out ≡ pricesAt s at i)
+
+abbrev μ-loop : tie.MeasureT-loop
+μ-loop s at n out₀ i₀ out i = n - i
+
+loop-holds : tie.Need-loop-holds Inv-loop μ-loop
+unfolding pricesAt
+loop-holds c = (omega arith, refl, refl)
+
+mul-price-at : tie.Need-mul-price-at Inv-loop μ-loop
+mul-price-at c = omega arith
+
+add-price-at : tie.Need-add-price-at Inv-loop μ-loop
+add-price-at c = omega arith
+
+price-at-requires : tie.Need-price-at-requires Inv-loop μ-loop
+price-at-requires c κs = omega arith
+
+mul-out : tie.Need-mul-out Inv-loop μ-loop
+mul-out c = omega arith
+
+array-write-out : tie.Need-array-write-out Inv-loop μ-loop
+array-write-out c = omega arith
+
+add-i : tie.Need-add-i Inv-loop μ-loop
+add-i c = omega arith
+
+loop-less : tie.Need-loop-less Inv-loop μ-loop
+loop-less c = omega arith
+
+loop-again : tie.Need-loop-again Inv-loop μ-loop
+loop-again c =
+    let now = c .before .before .loop in
+    let inside : now .i < length (now .out) = omega arith in
+    (omega arith, simp length-set (now .inv .1), rw (add-one, take-suc-set, prices-more, now .inv .2, c .price-at .ensures))
+
+returns : tie.Need-returns Inv-loop μ-loop
+returns c =
+    let e : c .before .before .before .args .n ≡ c .before .loop .i = omega arith in
+    (c .before .loop .inv .1, rw e (c .before .loop .inv .2))
+
+pub prices-at-spec : {M : Type 1} → statement M
+prices-at-spec =
+    tie.close
+    (tie.spec
+    Inv-loop
+    μ-loop
+    loop-holds
+    mul-price-at
+    add-price-at
+    price-at-requires
+    mul-out
+    array-write-out
+    add-i
+    loop-less
+    loop-again
+    returns)

@@ -1,0 +1,48 @@
+-- "The other ways in", export for a host program: numbers, thresholds and bars as bytes, 32 to a bar, each price's bits little-endian.
+use Prim.Native.Nat.{ℕ, zero, suc, _+_, _*_, _/_, _%_}
+use mathlib.Core.List.{List, [], _∷_}
+use lib.Dec.{eqb}
+use lib.ListN.{length, getD}
+use lib.Ieee.{Float, binary64, ofBits}
+use Rattle.measures.specs.Bar.{barsOf}
+use Rattle.recognisers.specs.declared.thresholds.Thresholds.{Thresholds}
+use Rattle.recognisers.specs.declared.label.Pair.{Pair}
+use Rattle.recognisers.specs.declared.call.Answer.{Answer}
+use Rattle.recognisers.specs.declared.call.Answer.the-variants.{Labels, Refused}
+use Rattle.recognisers.specs.Label.{codeOf}
+use Rattle.recognisers.specs.Refusal.{refusalNumber, plainAnswer}
+
+-- the number that the eight bytes from a place on stand for, least significant first
+abbrev pub wordAt : List ℕ → ℕ → ℕ
+wordAt s at =
+    getD s at 0
+    + 256
+    * (getD s (at + 1) 0
+    + 256
+    * (getD s (at + 2) 0
+    + 256 * (getD s (at + 3) 0 + 256 * (getD s (at + 4) 0 + 256 * (getD s (at + 5) 0 + 256 * (getD s (at + 6) 0 + 256 * getD s (at + 7) 0))))))
+
+-- the price with those bits; a NaN pattern is NaN, whatever its payload
+unfoldable pub priceAt : List ℕ → ℕ → Float
+priceAt s at = ofBits binary64 (wordAt s at)
+
+-- n prices, from a place on
+unfoldable pub pricesAt : List ℕ → ℕ → ℕ → List Float
+pricesAt s at zero = []
+pricesAt s at (suc n) = priceAt s at ∷ pricesAt s (at + 8) n
+
+-- the prices that bytes stand for
+unfoldable pub pricesOf : List ℕ → List Float
+pricesOf bytes = pricesAt bytes 0 (length bytes / 8)
+
+-- the result is v1 × 256 + v2, or 65,536 plus the refusal
+abbrev pub pairNumber : Pair → ℕ
+pairNumber pair = codeOf (pair .v1) * 256 + codeOf (pair .v2)
+
+abbrev pub resultOf : Answer → ℕ
+resultOf (Labels pair) = pairNumber pair
+resultOf (Refused r) = 65536 + refusalNumber r
+
+-- a plain call over the bars of the bytes
+unfoldable pub exportOf : ℕ → ℕ → Thresholds → List ℕ → ℕ
+exportOf k di t bytes = resultOf (plainAnswer k di t (eqb (length bytes % 32) 0) (barsOf (pricesOf bytes)))

@@ -1,0 +1,181 @@
+// The export for a host program: numbers, thresholds and bars as bytes, 32 to a bar, each price's bits little-endian.
+ghost use mathlib.Core.Path.{_≡_};
+ghost use mathlib.Core.Bool.{cond};
+ghost use Prim.Native.Nat as Nat;
+ghost use Prim.Native.Nat.{_+_, _*_, _≤_, _<_};
+ghost use lib.Dec.{eqb};
+ghost use lib.ListN.{length, take};
+ghost use lib.Ieee.{binary64, ofBits};
+ghost use Rattle.measures.specs.Bar.{barsOf};
+ghost use Rattle.measures.specs.Window.{windowOf};
+ghost use Rattle.recognisers.specs.Number.{gated, quarterBars};
+ghost use Rattle.recognisers.specs.Threshold.{thresholdsOf};
+ghost use Rattle.recognisers.specs.Table.{pairAt};
+ghost use Rattle.recognisers.specs.Export.{wordAt, priceAt, pricesAt, pricesOf, pairNumber, exportOf};
+use crate::call;
+use crate::call::Verdict;
+use crate::label::Pair;
+use crate::label::code;
+use crate::table;
+use crate::thresholds::Thresholds;
+use measures::price;
+
+fn wide(b: u8) -> u64
+    ensures { λ r. ⌜ (r ≡ b) × (r < 256) ⌝ }
+{
+    b as u64
+}
+
+// The number that the eight bytes from at on stand for.
+fn word(s: &[u8], at: usize) -> u64
+    requires { ⌜ at + 8 ≤ length (now s) ⌝ }
+    ensures { λ r. ⌜ r ≡ wordAt (now (s .entry)) at ⌝ }
+{
+    let b0 = wide(s[at]);
+    let b1 = wide(s[at + 1]);
+    let b2 = wide(s[at + 2]);
+    let b3 = wide(s[at + 3]);
+    let b4 = wide(s[at + 4]);
+    let b5 = wide(s[at + 5]);
+    let b6 = wide(s[at + 6]);
+    let b7 = wide(s[at + 7]);
+    let high = b4 + 256 * (b5 + 256 * (b6 + 256 * b7));
+    b0 + 256 * (b1 + 256 * (b2 + 256 * (b3 + 256 * high)))
+}
+
+// The float of a bit pattern. A NaN's pattern with its sign taken off is a number above the infinity's; whatever its payload, it
+// becomes the one NaN.
+pub fn of_bits(w: u64) -> f64
+    ensures { λ r. ⌜ r ≡ ofBits binary64 w ⌝ }
+{
+    if 0x7FF0_0000_0000_0000 < w % 0x8000_0000_0000_0000 {
+        price::not_a_number()
+    } else {
+        f64::from_bits(w)
+    }
+}
+
+// The price of the eight bytes from at on.
+fn price_at(s: &[u8], at: usize) -> f64
+    requires { ⌜ at + 8 ≤ length (now s) ⌝ }
+    ensures { λ r. ⌜ r ≡ priceAt (now (s .entry)) at ⌝ }
+{
+    of_bits(word(s, at))
+}
+
+// The n prices of the bytes from at on, and zeros after them. A rule sees at most 22 bars.
+fn prices_at(s: &[u8], at: usize, n: usize) -> [f64; 88]
+    requires { ⌜ (n ≤ 88) × (at + 8 * n ≤ length (now s)) ⌝ }
+    ensures { λ r. ⌜ (length r ≡ 88) × (take n r ≡ pricesAt (now (s .entry)) at n) ⌝ }
+{
+    let mut out = [0.0; 88];
+    let mut i = 0usize;
+    while i < n {
+        out[i] = price_at(s, at + 8 * i);
+        i += 1;
+    }
+    out
+}
+
+// The prices of a window of at most 22 bars, and how many there are.
+pub struct Window {
+    pub prices: [f64; 88],
+    pub len: usize,
+}
+
+// The smaller of two counts.
+fn least(a: usize, b: usize) -> usize
+    ensures { λ r. ⌜ r ≡ Nat.min a b ⌝ }
+{
+    if a < b { a } else { b }
+}
+
+// The last n bars up to the judged one, out of the bytes of a history.
+fn decode(s: &[u8], di: usize, n: usize) -> Window
+    requires { ⌜ n ≤ 22 ⌝ }
+    ensures { λ r. ⌜ (length (r .prices) ≡ 88) × (r .len ≤ 88) × (barsOf (take (r .len) (r .prices)) ≡ windowOf (barsOf (pricesOf (now (s .entry)))) di n) ⌝ }
+{
+    let p = measures::up_to(s.len() / 32, di);
+    let m = least(n, p);
+    let len = 4 * m;
+    Window {
+        prices: prices_at(s, 32 * (p - m), len),
+        len,
+    }
+}
+
+// The bars of the gate's window: none for a recogniser without a gate.
+fn gate_bars(k: u32) -> usize
+    ensures { λ r. ⌜ (r ≡ cond (eqb k gated) quarterBars 0) × (r ≤ 22) ⌝ }
+{
+    if k == 12 { 20 } else { 0 }
+}
+
+// The pair at an offset of the history that bytes stand for. Only the bars that the rule can see are read.
+fn pair_at(k: u32, t: Thresholds, di: u32, s: &[u8]) -> Pair
+    ensures { λ r. ⌜ r ≡ pairAt k t (length (barsOf (pricesOf (now (s .entry))))) (barsOf (pricesOf (now (s .entry)))) di ⌝ }
+{
+    let len = s.len() / 32;
+    let p = measures::up_to(len, di as usize);
+    let w = decode(s, di as usize, 22);
+    let gate = decode(s, 3, gate_bars(k));
+    let w_prices = w.prices;
+    let w_len = w.len;
+    let gate_prices = gate.prices;
+    let gate_len = gate.len;
+    table::judge(k, t, len, p, &w_prices[..w_len], &gate_prices[..gate_len])
+}
+
+// v1 × 256 + v2 of a pair.
+fn pair_number(pair: Pair) -> u32
+    ensures { λ r. ⌜ r ≡ pairNumber pair ⌝ }
+{
+    let v1 = pair.v1;
+    let v2 = pair.v2;
+    code(v1) as u32 * 256 + code(v2) as u32
+}
+
+// The result is v1 × 256 + v2, or 65,536 plus the refusal.
+#[no_mangle]
+pub extern "C" fn jcc_label(
+    recogniser: u32,
+    offset: u32,
+    th0: f64,
+    z2: u32,
+    th2: u32,
+    z3: u32,
+    th3: u32,
+    zdf5: u32,
+    th6: u32,
+    zdf7: u32,
+    th8: f64,
+    zf8: u32,
+    th10: u32,
+    th13: u32,
+    th14: u32,
+    bars: &[u8],
+) -> u32
+    ensures { λ r. ⌜ r ≡ exportOf recogniser offset
+        (thresholdsOf th0 z2 th2 z3 th3 zdf5 th6 zdf7 th8 zf8 th10 th13 th14) (now (bars .entry)) ⌝ }
+{
+    let t = Thresholds::new(
+        th0,
+        z2,
+        th2,
+        z3,
+        th3,
+        zdf5,
+        th6,
+        zdf7,
+        th8,
+        zf8,
+        th10,
+        th13,
+        th14,
+    );
+    let n = bars.len();
+    match call::plain_verdict(recogniser, offset, t, n % 32 == 0, n / 32) {
+        Verdict::Denied(why) => 65536 + call::refusal_number(why) as u32,
+        Verdict::Accepted => pair_number(pair_at(recogniser, t, offset, bars)),
+    }
+}
