@@ -6,7 +6,7 @@ use mathlib.Core.List.{List, [], _∷_, _++_}
 use lib.Dec.{leb, ltb, eqb}
 use lib.ListN.{length}
 use lib.Count.{trailingZeros}
-use lib.Ieee.{Float, ofInt, ofBits, ofFields, toUnsigned, round, size, span, climb, units, odd, lt, eq, le, ne, add, sub, mul, div, sum, neg, isNan}
+use lib.Ieee.{Float, binary64, ofInt, ofBits, ofFields, toUnsigned, round, size, span, climb, units, odd, lt, eq, le, ne, add, sub, mul, div, sum, neg, isNan}
 use Rattle.measures.specs.declared.bars.Bar.{Bar}
 use Rattle.measures.specs.Price.{maxOf, minOf, absOf, squareOf}
 use Rattle.measures.specs.Bar.{barOf, bodyOf, upperOf, lowerOf, dojiOf}
@@ -14,7 +14,7 @@ use Rattle.measures.specs.Window.{upTo, newest, windowOf, backOf}
 use Rattle.measures.specs.Fold.{columnOf, highestOf, lowestOf, sumOf, sizeOf, meanOf, varianceOf, everyOf, extremesOf}
 use Rattle.recognisers.specs.declared.label.Label.the-variants.{Other, Any, Met, RisingThreeMethods, Bars5, Bearish, Bottom, Top, Regular}
 use Rattle.recognisers.specs.declared.label.Pair.{Pair}
-use Rattle.recognisers.specs.Number.{wholeOf}
+use Rattle.recognisers.specs.Number.{wholeOf, aHundred}
 use Rattle.recognisers.specs.Label.{pairOf}
 use Rattle.recognisers.specs.Threshold.{standardSet}
 use Rattle.recognisers.specs.QuarterRule.{quarterOf, cutOf, umbrellaOf, sanXingXian, tenMo, fenShouXian}
@@ -49,3 +49,8 @@ pub known :
     × (newestPair 13 (times 11 (bar 10 10 10 10)) ≡ pairOf Other Any)
 unfolding bar times newestPair ofInt ofBits ofFields toUnsigned round size span climb units odd trailingZeros lt eq le ne add sub mul div sum neg isNan maxOf minOf absOf squareOf bodyOf upperOf lowerOf dojiOf upTo newest windowOf backOf columnOf highestOf lowestOf sumOf sizeOf meanOf varianceOf everyOf extremesOf standardSet quarterOf cutOf umbrellaOf sanXingXian tenMo fenShouXian longShadow yunXian flatOf pingTou twoCrow gateShut crowPair threeCrow dojiKind northernOf szx sizes sizeLabel firstMatch firstOf lastOf innerOf risesOf fallsOf threeMethods sanFaV20221118 insertOf bodiesDown bodiesKnown endsLead topOf bottomOf tower taXing rows rowOf judgeOf pairAt
 known = (refl, refl, refl, refl, refl, refl, refl, refl, refl, refl, refl, refl)
+
+-- "Misreadings": 0.29 × 100 is 28.999999999999996, so t is 28
+pub t-of-0-29 : cutOf (mul binary64 (ofBits binary64 0x3fd2_8f5c_28f5_c28f) aHundred) ≡ wholeOf 28
+unfolding cutOf ofInt ofBits ofFields toUnsigned round size span climb units odd trailingZeros lt mul neg
+t-of-0-29 = refl

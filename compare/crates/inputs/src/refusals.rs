@@ -1,0 +1,59 @@
+//! Calls that are refused, alone and in combination, so that the order of refusals is tried too;
+//! and their neighbours that are not.
+
+use jcc_types::{BAR_BYTES, MAX_BARS, Thresholds};
+
+/// Recognisers: the first and last, and those above.
+pub const RECOGNISERS: [u32; 6] = [0, 17, 18, 19, 1 << 31, u32::MAX];
+
+/// Offsets: the refused one, and others.
+pub const OFFSETS: [u32; 4] = [0, 1, 22, u32::MAX];
+
+/// Byte lengths: whole bars and not, up to and above the most bars.
+pub fn byte_lengths() -> Vec<usize> {
+    let most = MAX_BARS * BAR_BYTES;
+    let mut lengths: Vec<usize> = (0..=2 * BAR_BYTES + 1).collect();
+    lengths.extend([64 * BAR_BYTES, 64 * BAR_BYTES + 8, 64 * BAR_BYTES + 31]);
+    lengths.extend([most - BAR_BYTES, most - 1, most, most + 1, most + 31]);
+    lengths.extend([most + BAR_BYTES, most + BAR_BYTES + 1]);
+    lengths
+}
+
+/// Whole numbers that are no threshold, and the greatest that is.
+const WHOLES: [u32; 4] = [1_000_001, 1 << 31, u32::MAX, 1_000_000];
+
+/// Numbers that are no threshold of 0 or 8, NaN of several kinds among them, and some that are.
+fn reals() -> Vec<f64> {
+    let nan = [
+        0x7FF8_0000_0000_0000,
+        0xFFF8_0000_0000_0000,
+        0x7FF0_0000_0000_0001,
+        0xFFFF_FFFF_FFFF_FFFF,
+    ];
+    let mut reals: Vec<f64> = nan.into_iter().map(f64::from_bits).collect();
+    reals.extend([f64::INFINITY, f64::NEG_INFINITY, f64::MAX, -1.0]);
+    reals.extend([-f64::from_bits(1), 10_000.0_f64.next_up(), 10_000.5]);
+    reals.extend([-0.0, f64::from_bits(1), 10_000.0]);
+    reals
+}
+
+/// The standard set, and sets with one threshold at or outside its limits.
+pub fn thresholds() -> Vec<Thresholds> {
+    let standard = Thresholds::STANDARD;
+    let mut sets = vec![standard];
+    for real in reals() {
+        for i in 0..2 {
+            let mut changed = standard.reals();
+            changed[i] = real;
+            sets.push(Thresholds::from_parts(changed, standard.wholes()));
+        }
+    }
+    for whole in WHOLES {
+        for i in 0..Thresholds::WHOLE {
+            let mut changed = standard.wholes();
+            changed[i] = whole;
+            sets.push(Thresholds::from_parts(standard.reals(), changed));
+        }
+    }
+    sets
+}

@@ -1,0 +1,26 @@
+-- `replay::buffer::Buffer::size` meets its contract. Assumes nothing.
+use mathlib.Core.Path.{_≡_}
+use native.Mathlib.Omega.{arith}
+use lib.ListN.{length, length-map, length-take}
+use Rattle.replay.specs.Buffer.{capacity}
+use Rattle.replay.proofs.Laws.Lists.{take-min}
+use borrow.Author.Needs.{needs}
+use Rattle.replay.proofs.buffer.Buffer.size.Statement.{statement}
+use Rattle.replay.proofs.buffer.Buffer.size.Tie as tie
+
+least-requires : tie.Need-least-requires
+least-requires c κs = search needs
+
+returns : tie.Need-returns
+returns c =
+    let b = c .before .args .self in
+    let full : length (b .bytes) ≡ capacity = simp length-map at (c .before .good .0 .1 .1 .0 .1 .0 .1) in
+    record {
+      size = simp length-take (omega arith);
+      within = omega arith;
+      front = rw (c .least .ensures, take-min (b .len) capacity (b .bytes) full);
+      counts = (omega arith, simp length-take (omega arith));
+    }
+
+pub size-spec : {M : Type 1} → statement M
+size-spec = tie.close (tie.spec least-requires returns)

@@ -1,0 +1,32 @@
+-- `replay::number::of_bits` meets its contract. The test is the library's own of a NaN's pattern (`nanBits-above`). Assumes nothing.
+use borrow.Author.Tests.{lt-ltb, le-ltb}
+use mathlib.Core.Bool.{true}
+use mathlib.Core.Path.{_≡_, refl, sym, _∙_}
+use lib.Ieee.{Float, nan, inf, fin, isNan, binary64}
+use lib.Ieee.Bits.{nanBits-above, nanBits-is}
+use borrow.Author.Needs.{needs}
+use Rattle.replay.proofs.number.of_bits.Statement.{statement}
+use Rattle.replay.proofs.number.of_bits.Tie as tie
+
+is-nan : (x : Float) → isNan x ≡ true → x ≡ nan
+unfolding isNan
+is-nan nan h = refl
+is-nan (inf s) h = cc
+is-nan (fin s m e) h = cc
+
+not-a-number-requires : tie.Need-not-a-number-requires
+not-a-number-requires c κs = search needs
+
+float-from-bits-result : tie.Need-float-from-bits-result
+float-from-bits-result c = rw (nanBits-above, le-ltb _ _ (c .if1 .left)) tt
+
+returns : tie.Need-returns
+returns c =
+    c .not-a-number .ensures
+    ∙ sym (is-nan _ (sym (nanBits-is binary64 (c .before .before .args .w)) ∙ nanBits-above binary64 _ ∙ lt-ltb _ _ (c .before .if1 .taken)))
+
+returns-2 : tie.Need-returns-2
+returns-2 c = search needs
+
+pub of-bits-spec : {M : Type 1} → statement M
+of-bits-spec = tie.close (tie.spec not-a-number-requires float-from-bits-result returns returns-2)
