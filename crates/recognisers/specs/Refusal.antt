@@ -1,6 +1,6 @@
 -- "Why a call is refused": the refusals' numbers, when each is true, and the plain call, which tries 1 to 5.
-use Prim.Native.Nat.{ℕ, _%_}
-use mathlib.Core.Bool.{Bool, cond, not}
+use Prim.Native.Nat.{ℕ, _*_, _%_}
+use mathlib.Core.Bool.{Bool, cond, not, _||_}
 use mathlib.Core.List.{List, [], _∷_}
 use lib.Dec.{ltb, leb, eqb}
 use lib.ListN.{length}
@@ -16,7 +16,7 @@ use Rattle.recognisers.specs.declared.call.Answer.{Answer}
 use Rattle.recognisers.specs.declared.call.Answer.the-variants.{Labels, Refused}
 use Rattle.recognisers.specs.Label.{codeOf}
 use Rattle.recognisers.specs.Threshold.{validOf}
-use Rattle.recognisers.specs.Number.{recognisers, mostBars}
+use Rattle.recognisers.specs.Number.{recognisers, rowBytes, mostBars, farthestLook, longestLine}
 use Rattle.recognisers.specs.Table.{pairAt}
 
 -- ---- the numbers
@@ -31,7 +31,7 @@ refusalNumber ShortSheet = 6
 refusalNumber FarLook = 7
 refusalNumber BadLine = 8
 
--- ---- when each is true; 6 to 8 are tried by calls of the layers above
+-- ---- when each is true
 
 -- a refusal with the test that makes it true
 pub record Tried : Type 0 where
@@ -61,7 +61,20 @@ brokenBars whole = tried (not whole) BrokenBars
 abbrev pub tooManyBars : ℕ → Tried
 tooManyBars count = tried (ltb mostBars count) TooManyBars
 
--- each call tries those that concern it, in this order, gives the first that is true and none otherwise
+-- 6. The sheet has fewer than 36 bytes for each bar.
+abbrev pub shortSheet : ℕ → ℕ → Tried
+shortSheet bytes bars = tried (ltb bytes (rowBytes * bars)) ShortSheet
+
+-- 7. A look has an offset above 43.
+abbrev pub farLook : ℕ → Tried
+farLook di = tried (ltb farthestLook di) FarLook
+
+-- 8. A text line is longer than 80 bytes or is not four prices.
+abbrev pub badLine : ℕ → Bool → Tried
+badLine bytes fourPrices = tried (ltb longestLine bytes || not fourPrices) BadLine
+
+-- each call tries those that concern it, in this order, gives the first that is true and none otherwise: a plain call 1 to 5, box-making 3, a feed
+-- 3 to 6, a look 1 to 3, 5 and 7, a text line 8
 unfoldable pub firstTrue : List Tried → Verdict
 firstTrue [] = Accepted
 firstTrue (x ∷ xs) = cond (x .met) (Denied (x .why)) (firstTrue xs)

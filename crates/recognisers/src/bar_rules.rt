@@ -8,6 +8,7 @@ ghost use Rattle.measures.specs.Fold.{columnOf, highestOf};
 ghost use Rattle.recognisers.specs.Label.{pairA};
 ghost use Rattle.recognisers.specs.Table.{tenCloses};
 ghost use Rattle.recognisers.specs.BarRule.{coversOf, wuYunGaiDing, ciTou, changeOf, sanFaV20221115, starBodies, morningOf, eveningOf, xingXian, longShadow, holdsFalling, holdsRising, yunXian, flatOf, pingTou, twoCrow, gateShut, fallingOf, shortShadows, opensWithin, crowPair, threeCrow, dojiKind, northernOf, szx as szxOf, sanSzx, alikeOf, gapUpOf, gapDownOf, gapYinYang};
+use crate::counts::GATE_ABOVE;
 use crate::label::Label;
 use crate::label::Pair;
 use crate::label::pair_a;
@@ -214,7 +215,7 @@ fn is_gate_shut(len: usize, gate: &[f64], b3: Bar) -> bool
     ensures { λ r. ⌜ r ≡ gateShut len (barsOf (now (gate .entry))) b3 ⌝ }
 {
     let e = measures::extremes_of(gate);
-    (len > 23) & (b3.high < e.highest - 0.25 * (e.highest - e.lowest))
+    (len > GATE_ABOVE) & (b3.high < e.highest - 0.25 * (e.highest - e.lowest))
 }
 
 fn are_falling(b1: Bar, b2: Bar, b3: Bar) -> bool

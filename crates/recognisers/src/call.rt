@@ -1,6 +1,7 @@
 // The plain call, and why a call is refused.
 ghost use mathlib.Core.Path.{_≡_};
 ghost use Rattle.recognisers.specs.Refusal.{refusalNumber, plainVerdict, recogniseOf};
+use crate::counts;
 use crate::label::Pair;
 use crate::table;
 use crate::thresholds::Thresholds;
@@ -49,7 +50,7 @@ pub fn refusal_number(r: Refusal) -> u8
 pub fn plain_verdict(k: u32, di: u32, t: Thresholds, whole: bool, count: usize) -> Verdict
     ensures { λ r. ⌜ r ≡ plainVerdict k di t whole count ⌝ }
 {
-    if 18 <= k {
+    if counts::RECOGNISERS <= k {
         return Verdict::Denied(Refusal::UnknownRecogniser);
     }
     if di == 0 {
@@ -62,7 +63,7 @@ pub fn plain_verdict(k: u32, di: u32, t: Thresholds, whole: bool, count: usize) 
     if !whole {
         return Verdict::Denied(Refusal::BrokenBars);
     }
-    if 1000000 < count {
+    if counts::MOST_BARS < count {
         return Verdict::Denied(Refusal::TooManyBars);
     }
     Verdict::Accepted
@@ -77,8 +78,8 @@ pub fn recognise(k: u32, di: u32, t: Thresholds, prices: &[f64]) -> Answer
         Verdict::Denied(why) => Answer::Refused(why),
         Verdict::Accepted => {
             let p = measures::up_to(len, di as usize);
-            let w = measures::last_bars(prices, di as usize, 22);
-            let gate = measures::last_bars(prices, 3, 20);
+            let w = measures::last_bars(prices, di as usize, counts::REACH_BARS);
+            let gate = measures::last_bars(prices, counts::GATE_END, counts::QUARTER_BARS);
             Answer::Labels(table::judge(k, t, len, p, w, gate))
         }
     }

@@ -14,6 +14,7 @@ ghost use Rattle.recognisers.specs.Table.{pairAt};
 ghost use Rattle.recognisers.specs.Export.{wordAt, priceAt, pricesAt, pricesOf, pairNumber, exportOf};
 use crate::call;
 use crate::call::Verdict;
+use crate::counts;
 use crate::label::Pair;
 use crate::label::code;
 use crate::table;
@@ -108,7 +109,11 @@ fn decode(s: &[u8], di: usize, n: usize) -> Window
 fn gate_bars(k: u32) -> usize
     ensures { λ r. ⌜ (r ≡ cond (eqb k gated) quarterBars 0) × (r ≤ 22) ⌝ }
 {
-    if k == 12 { 20 } else { 0 }
+    if k == counts::GATED {
+        counts::QUARTER_BARS
+    } else {
+        0
+    }
 }
 
 // The pair at an offset of the history that bytes stand for. Only the bars that the rule can see are read.
@@ -117,8 +122,8 @@ fn pair_at(k: u32, t: Thresholds, di: u32, s: &[u8]) -> Pair
 {
     let len = s.len() / 32;
     let p = measures::up_to(len, di as usize);
-    let w = decode(s, di as usize, 22);
-    let gate = decode(s, 3, gate_bars(k));
+    let w = decode(s, di as usize, counts::REACH_BARS);
+    let gate = decode(s, counts::GATE_END, gate_bars(k));
     let w_prices = w.prices;
     let w_len = w.len;
     let gate_prices = gate.prices;

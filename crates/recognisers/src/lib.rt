@@ -3,6 +3,7 @@
 // with a definition of specs/, for every input.
 pub mod bar_rules;
 pub mod call;
+pub mod counts;
 pub mod export;
 pub mod growing_rules;
 pub mod label;

@@ -2,6 +2,7 @@
 ghost use mathlib.Core.Path.{_≡_};
 ghost use Rattle.measures.specs.Bar.{barsOf};
 ghost use Rattle.recognisers.specs.QuarterRule.{quarterIn, quarterOf, quarterExtremes, cutOf, umbrellaOf, sanXingXian, engulfsUp, engulfsDown, tenMo, partsDown, partsUp, fenShouXian, candleOf, zhuHuoXian, countersOf, countersUp, countersDown, fanJiXian};
+use crate::counts::QUARTER_BARS;
 use crate::label::Label;
 use crate::label::Pair;
 use crate::label::pick;
@@ -28,7 +29,7 @@ pub fn quarter_in(deep: bool, e: Extremes, b1: Bar) -> Quarter
 pub fn quarter_extremes(w: &[f64]) -> Extremes
     ensures { λ r. ⌜ r ≡ quarterExtremes (barsOf (now (w .entry))) ⌝ }
 {
-    measures::extremes_of(measures::last_bars(w, 1, 20))
+    measures::extremes_of(measures::last_bars(w, 1, QUARTER_BARS))
 }
 
 pub fn quarter_of(deep: bool, w: &[f64]) -> Quarter

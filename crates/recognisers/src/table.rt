@@ -5,6 +5,7 @@ ghost use lib.Dec.{ltb};
 ghost use Rattle.measures.specs.Bar.{barsOf};
 ghost use Rattle.recognisers.specs.Table.{judgeOf};
 use crate::bar_rules;
+use crate::counts::REACH_BARS;
 use crate::growing_rules;
 use crate::label::Pair;
 use crate::label::pair_a;
@@ -27,7 +28,7 @@ fn row(p: usize, from: usize, short: Pair, full: Pair) -> Pair
 pub fn judge(k: u32, t: Thresholds, len: usize, p: usize, w: &[f64], gate: &[f64]) -> Pair
     ensures { λ r. ⌜ r ≡ judgeOf k t len p (barsOf (now (w .entry))) (barsOf (now (gate .entry))) ⌝ }
 {
-    let deep = p >= 22;
+    let deep = p >= REACH_BARS;
     let b1 = back(w, 1);
     let b2 = back(w, 2);
     let b3 = back(w, 3);

@@ -1,6 +1,7 @@
 // The thresholds of the recognisers.
 ghost use mathlib.Core.Path.{_≡_};
 ghost use Rattle.recognisers.specs.Threshold.{thresholdsOf, standardSet, floatWithin, wholeWithin, validOf};
+use crate::counts::MOST_WHOLE;
 
 // The digit at the end of a name is the recogniser's number.
 pub struct Thresholds {
@@ -106,5 +107,5 @@ fn float_within(x: f64) -> bool
 fn whole_within(n: u32) -> bool
     ensures { λ r. ⌜ r ≡ wholeWithin n ⌝ }
 {
-    n <= 1000000
+    n <= MOST_WHOLE
 }

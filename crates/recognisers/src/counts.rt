@@ -1,0 +1,23 @@
+// The counts of the rules, as specs/Number.antt names them.
+
+// The recognisers, numbered from 0.
+pub const RECOGNISERS: u32 = 18;
+
+// The recogniser whose gate reads len.
+pub const GATED: u32 = 12;
+
+// The newest bars up to the judged one that a rule can see; and the p from which the quarter holds.
+pub const REACH_BARS: usize = 22;
+
+// The quarter's window.
+pub const QUARTER_BARS: usize = 20;
+
+// The gate's bars end third from the newest, and it holds where len is above GATE_ABOVE.
+pub const GATE_END: usize = 3;
+
+pub const GATE_ABOVE: usize = 23;
+
+// The most bars of a history, and the greatest threshold that is whole.
+pub const MOST_BARS: usize = 1000000;
+
+pub const MOST_WHOLE: u32 = 1000000;
