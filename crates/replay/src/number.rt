@@ -1,7 +1,6 @@
 // Numbers out of bytes, the least significant byte first.
 ghost use mathlib.Core.Path.{_≡_};
 ghost use Prim.Native.Nat.{_+_, _≤_, _<_};
-ghost use lib.Ieee.{binary64, nan, ofBits};
 ghost use Rattle.replay.specs.Hex.{longest};
 ghost use Rattle.replay.specs.Number.{u32At, u64At, f64At};
 use crate::hex::LONGEST;
@@ -34,27 +33,10 @@ fn u64_at(s: &[u8; LONGEST], at: usize) -> u64
     low + 0x1_0000_0000 * high
 }
 
-fn not_a_number() -> f64
-    ensures { λ r. ⌜ r ≡ nan ⌝ }
-{
-    0.0 / 0.0
-}
-
-// The float of a bit pattern. A NaN's pattern without its sign lies above the infinity's, and from_bits may be handed none.
-fn of_bits(w: u64) -> f64
-    ensures { λ r. ⌜ r ≡ ofBits binary64 w ⌝ }
-{
-    if 0x7FF0_0000_0000_0000 < w % 0x8000_0000_0000_0000 {
-        not_a_number()
-    } else {
-        f64::from_bits(w)
-    }
-}
-
 // The f64 of the eight bytes from a place on.
 pub fn f64_at(s: &[u8; LONGEST], at: usize) -> f64
     requires { ⌜ at + 8 ≤ longest ⌝ }
     ensures { λ r. ⌜ r ≡ f64At (now (s .entry)) at ⌝ }
 {
-    of_bits(u64_at(s, at))
+    recognisers::export::of_bits(u64_at(s, at))
 }

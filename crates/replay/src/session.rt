@@ -19,7 +19,8 @@ use crate::hex::LONGEST;
 use crate::hex::decode;
 use crate::number::u32_at;
 use crate::output::Output;
-use crate::thresholds::Thresholds;
+use crate::thresholds::read;
+use recognisers::Thresholds;
 
 pub struct Session {
     // The line that has begun, and how many lines have ended.
@@ -58,7 +59,7 @@ impl Session {
             line: Buffer::new(),
             ended: 0,
             history: Buffer::new(),
-            thresholds: Thresholds::read(&zeros),
+            thresholds: read(&zeros),
             output: Output::new(),
             reading: true,
         }
@@ -144,7 +145,7 @@ impl Session {
             }
             Command::Bar => self.append_bar(bytes),
             Command::Thresholds => {
-                let t = Thresholds::read(&bytes);
+                let t = read(&bytes);
                 next.thresholds = t;
                 next
             }

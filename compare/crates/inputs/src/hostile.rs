@@ -126,7 +126,8 @@ pub fn spoil_bodies(rng: &mut Rng, bars: &mut [Bar]) {
 }
 
 /// A small change to the bars from `from` on: one price by one unit in the last place, one price
-/// moved a little or made equal to another, two prices or two bars exchanged.
+/// moved a little or made equal to another, two prices or two bars exchanged, or the same price of
+/// several bars moved alike.
 pub fn perturb(rng: &mut Rng, bars: &mut [Bar], from: usize) {
     if from >= bars.len() {
         return;
@@ -134,7 +135,7 @@ pub fn perturb(rng: &mut Rng, bars: &mut [Bar], from: usize) {
     let place = |rng: &mut Rng| rng.between(4 * from, 4 * bars.len() - 1);
     let (a, b) = (place(rng), place(rng));
     let (x, y) = (*price_at(bars, a), *price_at(bars, b));
-    match rng.below(6) {
+    match rng.below(7) {
         0 => *price_at(bars, a) = x.next_up(),
         1 => *price_at(bars, a) = x.next_down(),
         2 => *price_at(bars, a) = x + rng.whole(-3, 3) * 0.5,
@@ -143,6 +144,12 @@ pub fn perturb(rng: &mut Rng, bars: &mut [Bar], from: usize) {
             *price_at(bars, a) = y;
             *price_at(bars, b) = x;
         }
-        _ => bars.swap(a / 4, b / 4),
+        5 => bars.swap(a / 4, b / 4),
+        _ => {
+            let by = rng.whole(-8, 8);
+            for place in (a.min(b)..=a.max(b)).filter(|i| i % 4 == a % 4) {
+                *price_at(bars, place) += by;
+            }
+        }
     }
 }

@@ -67,7 +67,7 @@ fn plant(rng: &mut Rng, pattern: Pattern, [before, after]: [usize; 2], case: &mu
     let base = rng.pick(&[88.0, 96.0, 100.0, 118.0, 120.0, 134.0, 140.0, 150.0]);
     push_band(rng, before, &mut case.bars);
     pattern(rng, base, &mut case.bars);
-    if rng.one_in(2) {
+    for _ in 0..rng.pick(&[0, 0, 1, 1, 2, 3]) {
         perturb(rng, &mut case.bars, before);
     }
     push_band(rng, after, &mut case.bars);
@@ -168,14 +168,22 @@ fn piercing(rng: &mut Rng, base: f64, bars: &mut Vec<Bar>) {
     bars.push(at(base, -2.0, close, close + 1.0, -3.0));
 }
 
-/// 4: a rise, two to seven small falls inside it, a rise beyond.
+/// 4: a rise, two to seven small falls inside it, a rise beyond. Closes between that are below
+/// their lows leave the first bar's direction to its own condition.
 fn three_methods(rng: &mut Rng, base: f64, bars: &mut Vec<Bar>) {
     let start = bars.len();
-    bars.push(at(base, 0.0, 4.0, 5.0, -1.0));
+    let irregular = rng.one_in(6);
+    let first = if irregular { rng.whole(-2, 4) } else { 4.0 };
+    bars.push(at(base, 0.0, first, 5.0, -1.0));
     for _ in 0..rng.between(2, 7) {
+        let close = if irregular {
+            -3.0
+        } else {
+            rng.pick(&[2.0, 2.5])
+        };
         let high = 6.0 + rng.pick(&[0.0, 0.0, 0.5, 1.0]);
         let low = rng.pick(&[0.5, 1.0, 1.5]);
-        bars.push(at(base, 3.0, rng.pick(&[2.0, 2.5]), high, low));
+        bars.push(at(base, 3.0, close, high, low));
     }
     bars.push(at(base, 3.0, 7.0 + rng.whole(1, 3), 11.0, 2.0));
     maybe_mirror(rng, &mut bars[start..], base);
@@ -333,19 +341,31 @@ fn gap(rng: &mut Rng, base: f64, bars: &mut Vec<Bar>) {
 }
 
 /// 17: a rise, small falls with like highs above both ends, a fall. One body between may be the
-/// longest of all.
+/// longest of all; or most of the bars have none.
 fn tower(rng: &mut Rng, base: f64, bars: &mut Vec<Bar>) {
     let start = bars.len();
     let middle = rng.between(2, 8);
-    bars.push(at(base, 0.0, rng.whole(5, 9), 10.0, -1.0));
+    let flat = rng.one_in(6);
+    let rise = if flat {
+        rng.whole(-1, 1)
+    } else {
+        rng.whole(5, 9)
+    };
+    bars.push(at(base, 0.0, rise, 10.0, -1.0));
     for _ in 0..middle {
+        let open = if flat { 4.0 } else { 5.0 };
         let high = 10.0 + rng.pick(&[0.0, 0.0, 0.5, 1.0]);
-        bars.push(at(base, 5.0, 4.0, high, 2.0));
+        bars.push(at(base, open, 4.0, high, 2.0));
     }
     if rng.one_in(3) {
         let odd = start + 1 + rng.below(middle);
         bars[odd].open = base + 16.0;
     }
-    bars.push(at(base, rng.whole(6, 9), rng.whole(0, 1), 10.0, -1.0));
+    let fall = if flat {
+        rng.whole(0, 2)
+    } else {
+        rng.whole(6, 9)
+    };
+    bars.push(at(base, fall, rng.whole(0, 1), 10.0, -1.0));
     maybe_mirror(rng, &mut bars[start..], base);
 }

@@ -1,8 +1,8 @@
--- `replay::thresholds::Thresholds::read` meets its contract. Assumes nothing.
+-- `replay::thresholds::read` meets its contract. Assumes nothing.
 use Rattle.replay.specs.Thresholds.{thresholdsOf}
 use borrow.Author.Needs.{needs}
-use Rattle.replay.proofs.thresholds.Thresholds.read.Statement.{statement}
-use Rattle.replay.proofs.thresholds.Thresholds.read.Tie as tie
+use Rattle.replay.proofs.thresholds.read.Statement.{statement}
+use Rattle.replay.proofs.thresholds.read.Tie as tie
 
 f64-at-requires : tie.Need-f64-at-requires
 f64-at-requires c κs = search needs
