@@ -2,14 +2,44 @@
 use Prim.Native.Nat.{ℕ, zero, suc, _+_, _-_, _*_, _/_, _≤_, min}
 use mathlib.Core.Path.{_≡_, refl, ap, _∙_}
 use mathlib.Core.List.{List, [], _∷_, _++_}
+use native.Mathlib.Nat.{add-zero}
 use native.Mathlib.Omega.{arith}
-use lib.ListN.{length, take, drop}
+use lib.ListN.{length, getD, take, drop}
+use lib.Seq.{getD-drop}
 use lib.Ieee.{Float}
 use Rattle.measures.specs.Bar.{barsOf}
 use Rattle.measures.specs.Window.{upTo, windowOf, pricesFrom}
 use Rattle.measures.proofs.RunLaws.{length-bars, bars-part}
 use Rattle.measures.proofs.WindowLaws.{upTo-le, window-part}
-use Rattle.recognisers.specs.Export.{priceAt, pricesAt, pricesOf}
+use Rattle.recognisers.specs.Export.{littleEndian, wordAt, priceAt, pricesAt, pricesOf}
+
+-- eight bytes, one by one
+eight : (s : List ℕ) → littleEndian (take 8 s) ≡ wordAt s 0
+unfolding littleEndian
+eight [] = refl
+eight (a ∷ []) = omega arith
+eight (a ∷ b ∷ []) = omega arith
+eight (a ∷ b ∷ c ∷ []) = omega arith
+eight (a ∷ b ∷ c ∷ d ∷ []) = omega arith
+eight (a ∷ b ∷ c ∷ d ∷ e ∷ []) = omega arith
+eight (a ∷ b ∷ c ∷ d ∷ e ∷ f ∷ []) = omega arith
+eight (a ∷ b ∷ c ∷ d ∷ e ∷ f ∷ g ∷ []) = omega arith
+eight (a ∷ b ∷ c ∷ d ∷ e ∷ f ∷ g ∷ h ∷ s) = omega arith
+
+pub word-at : (s : List ℕ) (at : ℕ) → littleEndian (take 8 (drop at s)) ≡ wordAt s at
+word-at s at =
+    rw (
+      eight (drop at s),
+      getD-drop at s 0 0,
+      getD-drop at s 1 0,
+      getD-drop at s 2 0,
+      getD-drop at s 3 0,
+      getD-drop at s 4 0,
+      getD-drop at s 5 0,
+      getD-drop at s 6 0,
+      getD-drop at s 7 0,
+      add-zero at,
+    )
 
 -- one price more
 pub prices-more : (s : List ℕ) (at n : ℕ) → pricesAt s at (suc n) ≡ pricesAt s at n ++ (priceAt s (at + 8 * n) ∷ [])

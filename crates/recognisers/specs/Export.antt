@@ -2,7 +2,7 @@
 use Prim.Native.Nat.{ℕ, zero, suc, _+_, _*_, _/_, _%_}
 use mathlib.Core.List.{List, [], _∷_}
 use lib.Dec.{eqb}
-use lib.ListN.{length, getD}
+use lib.ListN.{length, getD, take, drop}
 use lib.Ieee.{Float, binary64, ofBits}
 use Rattle.measures.specs.Bar.{barsOf}
 use Rattle.recognisers.specs.declared.thresholds.Thresholds.{Thresholds}
@@ -12,19 +12,14 @@ use Rattle.recognisers.specs.declared.call.Answer.the-variants.{Labels, 
 use Rattle.recognisers.specs.Label.{codeOf}
 use Rattle.recognisers.specs.Refusal.{refusalNumber, plainAnswer}
 
--- the number that the eight bytes from a place on stand for, least significant first
-abbrev pub wordAt : List ℕ → ℕ → ℕ
-wordAt s at =
-    getD s at 0
-    + 256
-    * (getD s (at + 1) 0
-    + 256
-    * (getD s (at + 2) 0
-    + 256 * (getD s (at + 3) 0 + 256 * (getD s (at + 4) 0 + 256 * (getD s (at + 5) 0 + 256 * (getD s (at + 6) 0 + 256 * getD s (at + 7) 0))))))
+-- the number that bytes stand for, least significant first
+unfoldable pub littleEndian : List ℕ → ℕ
+littleEndian [] = 0
+littleEndian (b ∷ bytes) = b + 256 * littleEndian bytes
 
--- the price with those bits; a NaN pattern is NaN, whatever its payload
+-- the price whose bits stand in the eight bytes from a place on; a NaN pattern is NaN, whatever its payload
 unfoldable pub priceAt : List ℕ → ℕ → Float
-priceAt s at = ofBits binary64 (wordAt s at)
+priceAt s at = ofBits binary64 (littleEndian (take 8 (drop at s)))
 
 -- n prices, from a place on
 unfoldable pub pricesAt : List ℕ → ℕ → ℕ → List Float
@@ -46,3 +41,13 @@ resultOf (Refused r) = 65536 + refusalNumber r
 -- a plain call over the bars of the bytes
 unfoldable pub exportOf : ℕ → ℕ → Thresholds → List ℕ → ℕ
 exportOf k di t bytes = resultOf (plainAnswer k di t (eqb (length bytes % 32) 0) (barsOf (pricesOf bytes)))
+
+-- ---- the sum of those eight bytes written out, as the code has it
+abbrev pub wordAt : List ℕ → ℕ → ℕ
+wordAt s at =
+    getD s at 0
+    + 256
+    * (getD s (at + 1) 0
+    + 256
+    * (getD s (at + 2) 0
+    + 256 * (getD s (at + 3) 0 + 256 * (getD s (at + 4) 0 + 256 * (getD s (at + 5) 0 + 256 * (getD s (at + 6) 0 + 256 * getD s (at + 7) 0))))))

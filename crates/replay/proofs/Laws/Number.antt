@@ -6,7 +6,8 @@ use native.Mathlib.Nat.{add-zero}
 use native.Mathlib.Omega.{arith}
 use lib.ListN.{take, drop, getD}
 use lib.Seq.{drop-drop, getD-drop}
-use Rattle.replay.specs.Number.{littleEndian, u32At, u64At}
+use Rattle.recognisers.specs.Export.{littleEndian}
+use Rattle.replay.specs.Number.{u32At, u64At}
 
 four : (s : List ℕ) → littleEndian (take 4 s) ≡ getD s 0 0 + 256 * (getD s 1 0 + 256 * (getD s 2 0 + 256 * getD s 3 0))
 unfolding littleEndian

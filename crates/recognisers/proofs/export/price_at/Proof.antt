@@ -1,6 +1,7 @@
 -- `price_at` meets its contract. Assumes nothing.
 use borrow.Author.Needs.{needs}
-use mathlib.Core.Path.{ap, _∙_}
+use mathlib.Core.Path.{ap, sym, _∙_}
+use Rattle.recognisers.proofs.ByteLaws.{word-at}
 use lib.Ieee.{binary64, ofBits}
 use Rattle.recognisers.specs.Export.{priceAt}
 use Rattle.recognisers.proofs.export.price_at.Statement.{statement}
@@ -14,7 +15,9 @@ of-bits-requires c κs = search needs
 
 returns : tie.Need-returns
 unfolding priceAt
-returns c = c .of-bits .ensures ∙ ap (ofBits binary64) (c .before .word .ensures)
+returns c =
+    let args = c .before .before .before .args in
+    c .of-bits .ensures ∙ ap (ofBits binary64) (c .before .word .ensures ∙ sym (word-at (args .s .now) (args .at)))
 
 pub price-at-spec : {M : Type 1} → statement M
 price-at-spec = tie.close (tie.spec word-requires of-bits-requires returns)
