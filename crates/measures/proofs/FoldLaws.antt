@@ -1,8 +1,10 @@
--- Folds over a column: one turn of a loop, and what a fold gives when an older bar comes in front. Assumes nothing.
-use Prim.Native.Nat.{ℕ, _+_, _<_, _≤_}
+-- Folds over a column: one turn of a loop, what a fold gives when an older bar comes in front, and what it says of each price.
+-- Assumes nothing.
+use Prim.Native.Nat.{ℕ, zero, suc, _+_, _<_, _≤_}
 use mathlib.Core.Path.{_≡_, refl, ap, _∙_}
-use mathlib.Core.Bool.{Bool, true, false, cond, _&&_, and-true, and-assoc}
+use mathlib.Core.Bool.{Bool, true, false, cond, _&&_, and-true, and-assoc, and-eq-true-iff}
 use mathlib.Core.List.{List, [], _∷_, foldl}
+use native.Mathlib.Omega.{arith}
 use lib.ListN.{length, getD, drop}
 use lib.Ieee.{Float, nan, inf, fin, lt, isNan}
 use Rattle.measures.specs.declared.bars.Bar.{Bar}
@@ -10,7 +12,7 @@ use Rattle.measures.specs.declared.folds.Column.{Column}
 use Rattle.measures.specs.Price.{maxOf, minOf}
 use Rattle.measures.specs.Bar.{noBar}
 use Rattle.measures.specs.Fold.{priceOf, columnOf, highestOf, lowestOf, everyOf}
-use Rattle.measures.proofs.Order.{max-assoc, min-assoc}
+use Rattle.measures.proofs.Order.{max-assoc, min-assoc, max-known, min-known, max-under, min-over, max-second, min-second}
 use Rattle.measures.proofs.RunLaws.{from-bar, past-bars}
 
 -- one turn: what is left to fold from the i-th bar on, its price taken in; and the end, where nothing is left
@@ -75,3 +77,47 @@ highest-grows x xs = rw (max-start x) (fold-max x (inf true) xs)
 pub lowest-grows : (x : Float) (xs : List Float) → lowestOf (x ∷ xs) ≡ minOf x (lowestOf xs)
 unfolding lowestOf
 lowest-grows x xs = rw (min-start x) (fold-min x (inf false) xs)
+
+-- ---- one price of a column, from a fact of all of them
+
+-- a fact P of the prices that says Q of the first and P of the rest says Q of each
+module _ (P : List Float → Type 0) (Q : Float → Type 0) (step : (x : Float) (xs : List Float) → P (x ∷ xs) → Q x × P xs) (c : Column) where
+  of-each : (bars : List Bar) (i : ℕ) → i < length bars → P (columnOf c bars) → Q (priceOf c (getD bars i noBar))
+  unfolding columnOf
+  of-each [] i h p = absurd (let z : ⊥ = omega arith in z)
+  of-each (b ∷ bars) zero h p = step (priceOf c b) (columnOf c bars) p .0
+  of-each (b ∷ bars) (suc i) h p = of-each bars i (omega arith) (step (priceOf c b) (columnOf c bars) p .1)
+
+-- an extreme is never NaN: the folds begin at an infinity
+known-highest : (xs : List Float) → isNan (highestOf xs) ≡ false
+unfolding highestOf isNan
+known-highest [] = refl
+known-highest (x ∷ xs) = rw (highest-grows x xs) (max-known x (highestOf xs) (known-highest xs))
+
+known-lowest : (xs : List Float) → isNan (lowestOf xs) ≡ false
+unfolding lowestOf isNan
+known-lowest [] = refl
+known-lowest (x ∷ xs) = rw (lowest-grows x xs) (min-known x (lowestOf xs) (known-lowest xs))
+
+module _ (c : Column) (bars : List Bar) (i : ℕ) (h : i < length bars) where
+  -- where the highest is below z, no price is above it; where the lowest is above z, none is below it
+  pub under : (z : Float) → lt (highestOf (columnOf c bars)) z ≡ true → lt z (priceOf c (getD bars i noBar)) ≡ false
+  under z = of-each (λ xs. lt (highestOf xs) z ≡ true) (λ x. lt z x ≡ false) step c bars i h
+    where
+      step : (x : Float) (xs : List Float) → lt (highestOf (x ∷ xs)) z ≡ true → (lt z x ≡ false) × (lt (highestOf xs) z ≡ true)
+      step x xs e =
+          let g : lt (maxOf x (highestOf xs)) z ≡ true = rw (highest-grows x xs) at e in
+          (max-under x (highestOf xs) z g, max-second x (highestOf xs) z (known-highest xs) g)
+
+  pub over : (z : Float) → lt z (lowestOf (columnOf c bars)) ≡ true → lt (priceOf c (getD bars i noBar)) z ≡ false
+  over z = of-each (λ xs. lt z (lowestOf xs) ≡ true) (λ x. lt x z ≡ false) step c bars i h
+    where
+      step : (x : Float) (xs : List Float) → lt z (lowestOf (x ∷ xs)) ≡ true → (lt x z ≡ false) × (lt z (lowestOf xs) ≡ true)
+      step x xs e =
+          let g : lt z (minOf x (lowestOf xs)) ≡ true = rw (lowest-grows x xs) at e in
+          (min-over x (lowestOf xs) z g, min-second x (lowestOf xs) z (known-lowest xs) g)
+
+  -- a test that all prices pass, each passes
+  pub every-at : (t : Float → Bool) → everyOf t (columnOf c bars) ≡ true → t (priceOf c (getD bars i noBar)) ≡ true
+  unfolding everyOf
+  every-at t = of-each (λ xs. everyOf t xs ≡ true) (λ x. t x ≡ true) (λ x xs. and-eq-true-iff (t x) (everyOf t xs) .0) c bars i h

@@ -1,5 +1,5 @@
--- Windows: their lengths, the bars of a window of prices, and how far a window reaches back: one that lies within the newest bars of
--- a history is the same there, and a window is its own window. Assumes nothing.
+-- Windows: their lengths and bars, the bars of a window of prices, and how far a window reaches back: one that lies within the newest
+-- bars of a history is the same there, and a window is its own window. Assumes nothing.
 use Prim.Native.Nat.{ℕ, zero, suc, _+_, _-_, _/_, _%_, _<_, _≤_, min}
 use mathlib.Core.Path.{_≡_, refl, sym, _∙_}
 use mathlib.Core.Logic.{_⊎_, inl, inr, ⊎-elim}
@@ -8,11 +8,11 @@ use mathlib.Core.List.{List, [], _∷_, _++_}
 use native.Mathlib.Omega.{arith}
 use lib.Dec.{leb, ltb, eqb}
 use lib.ListN.{length, take, drop, length-drop}
-use lib.Seq.{take-length, take-add, drop-at, drop-drop, length-take-le}
+use lib.Seq.{take-length, take-add, drop-at, drop-drop, getD-take, getD-drop, length-take-le}
 use lib.Ieee.{Float}
 use borrow.Author.Tests.{eqb-false, ltb-true, ltb-false, leb-true, leb-false, eq-eqb, ne-eqb, lt-ltb, le-ltb}
 use Rattle.measures.specs.declared.bars.Bar.{Bar}
-use Rattle.measures.specs.Bar.{barsOf}
+use Rattle.measures.specs.Bar.{noBar, barsOf}
 use Rattle.measures.specs.Window.{upTo, newest, windowOf, backOf, pricesFrom, partOf}
 use Rattle.measures.proofs.RunLaws.{length-bars, bars-part, from-bar, past-bars}
 
@@ -72,6 +72,22 @@ unfolding windowOf newest
 length-window history di n =
     let p = upTo (length history) di in
     simp (length-drop, length-take-le p history (upTo-le (length history) di)) (omega arith)
+
+-- the place of the i-th bar from the end of the last n of p bars
+place-in : (p n i : ℕ) → i ≤ n → i ≤ p → p - n + (p - (p - n) - min i (p - (p - n))) ≡ p - i
+place-in p n i h g = omega arith
+
+-- the i-th bar from the end of a window is a bar of the history
+pub back-window : (history : List Bar) (di n i : ℕ) → 1 ≤ di → 1 ≤ i → i ≤ n → i + di ≤ length history + 1
+    → backOf (windowOf history di n) i ≡ backOf history (i + di - 1)
+unfolding windowOf newest backOf
+back-window history di n i one first h g =
+    let p = upTo (length history) di in
+    let e1 : p ≡ length history - di + 1 = upTo-in (length history) di one (omega arith) in
+    let within : p - i < p = omega arith in
+    let e2 : length history - min (i + di - 1) (length history) ≡ p - i = omega arith in
+    let e3 : p - n + (p - (p - n) - min i (p - (p - n))) ≡ p - i = place-in p n i h (omega arith) in
+    simp (getD-drop, length-drop, length-take-le p history (upTo-le (length history) di), e2, e3) (getD-take p history (p - i) noBar within)
 
 -- the window at offset 1 is the newest bars
 pub window-one : (bars : List Bar) (n : ℕ) → windowOf bars 1 n ≡ newest n bars

@@ -1,5 +1,6 @@
--- The search over growing windows, step by step, and the two greatest bodies when an older bar comes in front. Assumes nothing.
-use Prim.Native.Nat.{ℕ, suc, _+_, _-_, _<_, _≤_}
+-- The search over growing windows, step by step and where nothing matches, and the two greatest bodies when an older bar comes in front.
+-- Assumes nothing.
+use Prim.Native.Nat.{ℕ, zero, suc, _+_, _-_, _<_, _≤_}
 use mathlib.Core.Path.{_≡_, refl}
 use mathlib.Core.Bool.{Bool, true, false, cond}
 use mathlib.Core.List.{List, [], _∷_}
@@ -13,6 +14,7 @@ use Rattle.measures.specs.Bar.{bodyOf}
 use Rattle.measures.specs.Window.{windowOf}
 use Rattle.measures.proofs.Order.{lt-nan}
 use Rattle.recognisers.specs.declared.label.Label.{Label}
+use Rattle.recognisers.specs.declared.label.Label.the-variants.{Other}
 use Rattle.recognisers.specs.declared.label.Pair.{Pair}
 use Rattle.recognisers.specs.Label.{codeOf, pairOf, pairA}
 use Rattle.recognisers.specs.GrowingRule.{sizeLabel, firstMatch, insertOf, bodiesDown, bodiesKnown, leadersOf, joined}
@@ -38,6 +40,13 @@ module _ (check : List Bar → Label) (w : List Bar) (to n : ℕ) where
   pub match-end : to ≤ n → upwards ≡ pairA
   unfolding firstMatch
   match-end h = let e : to - n ≡ 0 = omega arith in rw e
+
+-- no match where the check finds none in windows of 5 bars and up
+pub match-none : (check : List Bar → Label) (w : List Bar) → ((n : ℕ) → 5 ≤ n → check (windowOf w 1 n) ≡ Other)
+    → (k n : ℕ) → 5 ≤ n → firstMatch check k n w ≡ pairA
+unfolding firstMatch
+match-none check w none zero n h = refl
+match-none check w none (suc k) n h = simp (none n h, match-none check w none k (n + 1) (omega arith))
 
 -- ---- the two greatest bodies: the first two of a list that a value is inserted into depend on that value and the first two
 

@@ -4,4 +4,5 @@ pub mod Reach
 pub mod BodyOrder
 pub mod TableLaws
 pub mod GrowingLaws
+pub mod GrowingNeeds
 pub mod ByteLaws

@@ -1,6 +1,6 @@
 -- "The eighteen": the rules that try growing windows, 4 and 17. A window is a list of bars, oldest first.
 use Prim.Native.Nat.{ℕ, zero, suc, _+_, _-_}
-use mathlib.Core.Bool.{Bool, true, cond, not, _&&_}
+use mathlib.Core.Bool.{Bool, true, cond, not, _&&_, _||_}
 use mathlib.Core.List.{List, [], _∷_}
 use lib.Dec.{eqb}
 use lib.ListN.{length, getD}
@@ -135,3 +135,11 @@ joined x l = record {
   second = cond (lt x (l .first)) (cond (lt x (l .second)) (l .second) x) (l .first);
   known = not (isNan x) && l .known;
 }
+
+-- ---- what the code tests before it searches: that the newest bar rises and no high of the three before it is above its close, or that
+-- it falls and no low is below its close; a NaN is neither
+unfoldable pub standsOut : Bar → Bar → Bar → Bar → Bool
+standsOut b1 b2 b3 b4 =
+    let c = b1 .close in
+    lt (b1 .«open») c && not (lt c (b2 .high)) && not (lt c (b3 .high)) && not (lt c (b4 .high))
+    || lt c (b1 .«open») && not (lt (b2 .low) c) && not (lt (b3 .low) c) && not (lt (b4 .low) c)

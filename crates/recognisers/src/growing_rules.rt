@@ -1,9 +1,13 @@
 // The recognisers that try growing windows: 4 and 17.
 ghost use mathlib.Core.Path.{_≡_};
 ghost use Prim.Native.Nat.{_-_, _≤_, _<_};
+ghost use mathlib.Core.Bool.{_||_};
 ghost use mathlib.Core.List.{[]};
+ghost use lib.Dec.{ltb};
+ghost use lib.ListN.{length};
 ghost use Rattle.measures.specs.Bar.{barsOf};
-ghost use Rattle.recognisers.specs.GrowingRule.{sizeLabel, firstMatch, firstOf, lastOf, innerOf, risesOf, fallsOf, threeMethods, sanFaV20221118, leadersOf, joined, endsLead, topOf, bottomOf, tower as towerOf, checkOf, taXing};
+ghost use Rattle.measures.specs.Window.{backOf};
+ghost use Rattle.recognisers.specs.GrowingRule.{sizeLabel, firstMatch, firstOf, lastOf, innerOf, risesOf, fallsOf, threeMethods, sanFaV20221118, leadersOf, joined, endsLead, topOf, bottomOf, tower as towerOf, checkOf, taXing, standsOut};
 use crate::label::Label;
 use crate::label::Pair;
 use crate::label::code;
@@ -247,14 +251,46 @@ fn first_match(shape: Shape, k: usize, w: &[f64]) -> Pair
     pair_a()
 }
 
+// Whether the newest bar rises and no high of the three before it is above its close, or it falls and no low is below it.
+fn stands_out(b1: Bar, b2: Bar, b3: Bar, b4: Bar) -> bool
+    ensures { λ r. ⌜ r ≡ standsOut b1 b2 b3 b4 ⌝ }
+{
+    let c = b1.close;
+    let up = (b1.open < c) & !(c < b2.high) & !(c < b3.high) & !(c < b4.high);
+    let down = (c < b1.open) & !(b2.low < c) & !(b3.low < c) & !(b4.low < c);
+    up | down
+}
+
+// Whether the search is worth its time: no window of 5 or more bars has either shape unless its newest bar stands out, and most bars
+// do not. With fewer bars, which the table never hands over, the search decides.
+fn may_match(w: &[f64]) -> bool
+    ensures { λ r. ⌜ r ≡ (ltb (length (barsOf (now (w .entry)))) 5 || standsOut (backOf (barsOf (now (w .entry))) 1) (backOf (barsOf (now (w .entry))) 2) (backOf (barsOf (now (w .entry))) 3) (backOf (barsOf (now (w .entry))) 4)) ⌝ }
+{
+    let b1 = measures::back(w, 1);
+    let b2 = measures::back(w, 2);
+    let b3 = measures::back(w, 3);
+    let b4 = measures::back(w, 4);
+    (measures::count(w) < 5) | stands_out(b1, b2, b3, b4)
+}
+
 pub fn san_fa_v20221118(w: &[f64]) -> Pair
     ensures { λ r. ⌜ r ≡ sanFaV20221118 (barsOf (now (w .entry))) ⌝ }
 {
-    first_match(Shape::ThreeMethods, 4, w)
+    let may = may_match(w);
+    if may {
+        first_match(Shape::ThreeMethods, 4, w)
+    } else {
+        pair_a()
+    }
 }
 
 pub fn ta_xing(w: &[f64]) -> Pair
     ensures { λ r. ⌜ r ≡ taXing (barsOf (now (w .entry))) ⌝ }
 {
-    first_match(Shape::Tower, 5, w)
+    let may = may_match(w);
+    if may {
+        first_match(Shape::Tower, 5, w)
+    } else {
+        pair_a()
+    }
 }

@@ -1,6 +1,9 @@
--- The code is the definition.
+-- Where the test fails the search would find nothing.
+use mathlib.Core.Path.{sym, _∙_}
 use native.Mathlib.Omega.{arith}
+use Rattle.measures.specs.Bar.{barsOf}
 use Rattle.recognisers.specs.GrowingRule.{taXing}
+use Rattle.recognisers.proofs.GrowingNeeds.{no-towers}
 use Rattle.recognisers.proofs.growing_rules.ta_xing.Statement.{statement}
 use Rattle.recognisers.proofs.growing_rules.ta_xing.Tie as tie
 
@@ -8,5 +11,10 @@ returns : tie.Need-returns
 unfolding taXing
 returns c = simp (c .first-match .ensures)
 
+returns-2 : tie.Need-returns-2
+returns-2 c =
+    let test = c .before .before in
+    c .pair-a .ensures ∙ sym (no-towers (barsOf (test .before .before .args .w .now)) (sym (test .may-match .ensures) ∙ c .before .if1 .left))
+
 pub ta-xing-spec : {M : Type 1} → statement M
-ta-xing-spec = tie.close (tie.spec (λ c κs. omega arith) returns)
+ta-xing-spec = tie.close (tie.spec (λ c κs. tt) (λ c κs. omega arith) (λ c κs. tt) returns returns-2)
