@@ -114,7 +114,8 @@ known-right x (fin s m e) h = refl
 no-two : (t : Bool) → t ≡ true → t ≡ false → ⊥
 no-two t h g = true≢false (sym h ∙ g)
 
-is-nan : (x : Float) → isNan x ≡ true → x ≡ nan
+-- there is one NaN
+pub is-nan : (x : Float) → isNan x ≡ true → x ≡ nan
 unfolding isNan
 is-nan nan h = refl
 is-nan (inf s) h = absurd (false≢true h)
@@ -273,28 +274,6 @@ pub min-stays-known : (a b : Float) → isNan a ≡ false → isNan (minOf a b) 
 unfolding minOf
 min-stays-known = stays-known (λ x y. lt y x) falling
 
--- what is above two values is above the larger, and so for the smaller; the second is asked only where it is the one
-pub max-either : (a b z : Float) → lt a z ≡ true → (lt a b ≡ true → lt b z ≡ true) → lt (maxOf a b) z ≡ true
-unfolding maxOf
-max-either a b z h = either lt rising (λ (x : Float). lt x z ≡ true) a b (known-left a z h) h
-
-pub min-either : (a b z : Float) → lt z a ≡ true → (lt b a ≡ true → lt z b ≡ true) → lt z (minOf a b) ≡ true
-unfolding minOf
-min-either a b z h = either (λ x y. lt y x) falling (λ (x : Float). lt z x ≡ true) a b (known-right z a h) h
-
-pub least-inf : (x : Float) → lt x (inf true) ≡ false
-unfolding lt
-least-inf nan = refl
-least-inf (inf true) = refl
-least-inf (inf false) = refl
-least-inf (fin s m e) = refl
-
-pub most-inf : (x : Float) → lt (inf false) x ≡ false
-unfolding lt
-most-inf nan = refl
-most-inf (inf s) = refl
-most-inf (fin s m e) = refl
-
 pub both-ways : {A : Type 0} {t : Bool} → t ≡ true → t ≡ false → A
 both-ways {A} {t} h g = absurd (no-two t h g)
 
@@ -318,15 +297,6 @@ min-over a b z h = go (isNan a) refl
     go : (t : Bool) → isNan a ≡ t → lt a z ≡ false
     go true e = rw (is-nan a e) (nan-lt z)
     go false e = lt-asym z a (first (λ x y. lt y x) falling a b z e (known-left z (minOf a b) h) h)
-
--- what is above the larger of two is above both known ones, and so for the smaller
-pub max-first : (a b z : Float) → isNan a ≡ false → lt (maxOf a b) z ≡ true → lt a z ≡ true
-unfolding maxOf
-max-first a b z k h = first lt rising a b z k (known-right (maxOf a b) z h) h
-
-pub min-first : (a b z : Float) → isNan a ≡ false → lt z (minOf a b) ≡ true → lt z a ≡ true
-unfolding minOf
-min-first a b z k h = first (λ x y. lt y x) falling a b z k (known-left z (minOf a b) h) h
 
 -- where the first is NaN, the second is the answer whatever it is: there is one NaN
 pub max-by-choice : (a b : Float) → cond (isNan a) b (cond (lt a b) b a) ≡ maxOf a b

@@ -89,11 +89,6 @@ back-window history di n i one first h g =
     let e3 : p - n + (p - (p - n) - min i (p - (p - n))) ≡ p - i = place-in p n i h (omega arith) in
     simp (getD-drop, length-drop, length-take-le p history (upTo-le (length history) di), e2, e3) (getD-take p history (p - i) noBar within)
 
--- the window at offset 1 is the newest bars
-pub window-one : (bars : List Bar) (n : ℕ) → windowOf bars 1 n ≡ newest n bars
-unfolding windowOf
-window-one bars n = simp (upTo-one (length bars), take-length bars)
-
 -- the newest bars, one more, none, and all
 pub newest-more : (bars : List Bar) (i : ℕ) → i < length bars → newest (i + 1) bars ≡ backOf bars (i + 1) ∷ newest i bars
 unfolding newest backOf

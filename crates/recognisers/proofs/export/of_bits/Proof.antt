@@ -1,18 +1,12 @@
 -- `of_bits` meets its contract. The test is the library's own of a NaN's pattern (`nanBits-above`). Assumes nothing.
 use borrow.Author.Needs.{needs}
 use borrow.Author.Tests.{lt-ltb, le-ltb}
-use mathlib.Core.Bool.{true}
-use mathlib.Core.Path.{_≡_, refl, sym, _∙_}
-use lib.Ieee.{Float, nan, inf, fin, isNan, binary64}
+use mathlib.Core.Path.{sym, _∙_}
+use lib.Ieee.{binary64}
 use lib.Ieee.Bits.{nanBits-above, nanBits-is}
+use Rattle.measures.proofs.Order.{is-nan}
 use Rattle.recognisers.proofs.export.of_bits.Statement.{statement}
 use Rattle.recognisers.proofs.export.of_bits.Tie as tie
-
-is-nan : (x : Float) → isNan x ≡ true → x ≡ nan
-unfolding isNan
-is-nan nan h = refl
-is-nan (inf s) h = cc
-is-nan (fin s m e) h = cc
 
 not-a-number-requires : tie.Need-not-a-number-requires
 not-a-number-requires c κs = search needs
