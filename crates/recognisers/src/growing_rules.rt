@@ -262,7 +262,7 @@ fn stands_out(b1: Bar, b2: Bar, b3: Bar, b4: Bar) -> bool
 }
 
 // Whether the search is worth its time: no window of 5 or more bars has either shape unless its newest bar stands out, and most bars
-// do not. With fewer bars, which the table never hands over, the search decides.
+// do not. With fewer bars, whose pair the table passes over, the search decides.
 fn may_match(w: &[f64]) -> bool
     ensures { λ r. ⌜ r ≡ (ltb (length (barsOf (now (w .entry)))) 5 || standsOut (backOf (barsOf (now (w .entry))) 1) (backOf (barsOf (now (w .entry))) 2) (backOf (barsOf (now (w .entry))) 3) (backOf (barsOf (now (w .entry))) 4)) ⌝ }
 {
