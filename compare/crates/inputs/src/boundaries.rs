@@ -4,8 +4,8 @@
 use crate::Case;
 use crate::hostile::price_at;
 use crate::rng::Rng;
-use jcc_types::Label::Other;
-use jcc_types::{RECOGNISERS, Thresholds};
+use jcc_types::Label::{Any, Other};
+use jcc_types::{Pair, RECOGNISERS, Thresholds};
 
 /// A case at one offset whose answer changes with one price.
 pub struct Boundary {
@@ -49,14 +49,17 @@ pub fn find(rng: &mut Rng, case: &Case) -> Option<Boundary> {
     (0..TRIES).any(|_| found.try_price(rng)).then_some(found)
 }
 
-/// Mostly one that gives a label here.
+/// Mostly one that gives a label here, and a rare one if there is any.
 fn recogniser(rng: &mut Rng, offset: u32, case: &Case) -> usize {
-    let v1 = |k: usize| port::label(k, offset, &case.thresholds, &case.bars).0;
-    let labelled: Vec<usize> = (0..RECOGNISERS).filter(|k| v1(*k) != Other).collect();
-    if labelled.is_empty() || rng.one_in(4) {
+    let pair = |k: usize| port::label(k, offset, &case.thresholds, &case.bars);
+    let labelled = |Pair(v1, _)| v1 != Other;
+    let rare = |Pair(v1, v2)| v1 != Other && v2 != Other && v2 != Any;
+    let test = if rng.one_in(2) { labelled } else { rare };
+    let found: Vec<usize> = (0..RECOGNISERS).filter(|k| test(pair(*k))).collect();
+    if found.is_empty() || rng.one_in(4) {
         rng.below(RECOGNISERS)
     } else {
-        rng.pick(&labelled)
+        rng.pick(&found)
     }
 }
 

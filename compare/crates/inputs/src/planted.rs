@@ -232,8 +232,8 @@ fn star(rng: &mut Rng, base: f64, bars: &mut Vec<Bar>) {
 /// 7: equal opens, then a close beyond the bar before, against its direction.
 fn separation(rng: &mut Rng, base: f64, bars: &mut Vec<Bar>) {
     let start = bars.len();
-    bars.push(at(base, 0.0, rng.whole(1, 5), 6.0, -1.0));
-    let close = -rng.whole(1, 4);
+    bars.push(at(base, 0.0, rng.whole(1, 5), 6.0, -0.5));
+    let close = -rng.pick(&[0.5, 1.0, 1.5, 2.0, 3.0, 4.0]);
     bars.push(at(base, 0.0, close, 1.0, close - rng.whole(0, 1)));
     maybe_mirror(rng, &mut bars[start..], base);
 }
