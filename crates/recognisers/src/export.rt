@@ -79,9 +79,9 @@ fn prices_at(s: &[u8], at: usize, n: usize) -> [f64; 88]
 }
 
 // The prices of a window of at most 22 bars, and how many there are.
-pub struct Window {
-    pub prices: [f64; 88],
-    pub len: usize,
+struct Window {
+    prices: [f64; 88],
+    len: usize,
 }
 
 // The smaller of two counts.

@@ -12,7 +12,7 @@ fn wide(b: u8) -> u32
 }
 
 // The u32 of the four bytes from a place on.
-pub fn u32_at(s: &[u8; LONGEST], at: usize) -> u32
+pub(crate) fn u32_at(s: &[u8; LONGEST], at: usize) -> u32
     requires { ⌜ at + 4 ≤ longest ⌝ }
     ensures { λ r. ⌜ r ≡ u32At (now (s .entry)) at ⌝ }
 {
@@ -34,7 +34,7 @@ fn u64_at(s: &[u8; LONGEST], at: usize) -> u64
 }
 
 // The f64 of the eight bytes from a place on.
-pub fn f64_at(s: &[u8; LONGEST], at: usize) -> f64
+pub(crate) fn f64_at(s: &[u8; LONGEST], at: usize) -> f64
     requires { ⌜ at + 8 ≤ longest ⌝ }
     ensures { λ r. ⌜ r ≡ f64At (now (s .entry)) at ⌝ }
 {
