@@ -11,31 +11,29 @@ returns : tie.Need-returns
 unfolding judgeOf rowOf rows
 returns c =
     let read = c .before .before .before .before .before in
-    simp (c .row .ensures, c .before .san-xing-xian .ensures, c .before .before .quarter-of .ensures, c .before .before .before .pair-a .ensures, c .before .before .before .before .match .keys1, read .back3 .ensures, read .before .back2 .ensures, read .before .before .back .ensures)
+    simp (c .row .ensures, c .before .san-xing-xian .ensures, c .before .before .quarter-of .ensures, c .before .before .before .pair-a .ensures, c .before .before .before .before .match .keys1, read .before .before .back .ensures)
 
 returns-2 : tie.Need-returns-2
 unfolding judgeOf rowOf rows
 returns-2 c =
     let read = c .before .before .before .before .before in
-    simp (c .row2 .ensures, c .before .ten-mo .ensures, c .before .before .quarter-of2 .ensures, c .before .before .before .pair-a2 .ensures, c .before .before .before .before .match .keys2, read .back3 .ensures, read .before .back2 .ensures, read .before .before .back .ensures)
+    simp (c .row2 .ensures, c .before .ten-mo .ensures, c .before .before .quarter-of2 .ensures, c .before .before .before .pair-a2 .ensures, c .before .before .before .before .match .keys2, read .before .back2 .ensures, read .before .before .back .ensures)
 
 returns-3 : tie.Need-returns-3
 unfolding judgeOf rowOf rows
 returns-3 c =
     let read = c .before .before .before .before in
-    simp (c .row3 .ensures, c .before .wu-yun-gai-ding .ensures, c .before .before .pair-b .ensures, c .before .before .before .match .keys3, read .back3 .ensures, read .before .back2 .ensures, read .before .before .back .ensures)
+    simp (c .row3 .ensures, c .before .wu-yun-gai-ding .ensures, c .before .before .pair-b .ensures, c .before .before .before .match .keys3, read .before .back2 .ensures, read .before .before .back .ensures)
 
 returns-4 : tie.Need-returns-4
 unfolding judgeOf rowOf rows
 returns-4 c =
     let read = c .before .before .before .before in
-    simp (c .row4 .ensures, c .before .ci-tou .ensures, c .before .before .pair-b2 .ensures, c .before .before .before .match .keys4, read .back3 .ensures, read .before .back2 .ensures, read .before .before .back .ensures)
+    simp (c .row4 .ensures, c .before .ci-tou .ensures, c .before .before .pair-b2 .ensures, c .before .before .before .match .keys4, read .before .back2 .ensures, read .before .before .back .ensures)
 
 returns-5 : tie.Need-returns-5
 unfolding judgeOf rowOf rows
-returns-5 c =
-    let read = c .before .before .before .before in
-    simp (c .row5 .ensures, c .before .san-fa-v20221118 .ensures, c .before .before .pair-a3 .ensures, c .before .before .before .match .keys5, read .back3 .ensures, read .before .back2 .ensures, read .before .before .back .ensures)
+returns-5 c = simp (c .row5 .ensures, c .before .san-fa-v20221118 .ensures, c .before .before .pair-a3 .ensures, c .before .before .before .match .keys5)
 
 returns-6 : tie.Need-returns-6
 unfolding judgeOf rowOf rows
@@ -53,25 +51,25 @@ returns-8 : tie.Need-returns-8
 unfolding judgeOf rowOf rows
 returns-8 c =
     let read = c .before .before .before .before .before in
-    simp (c .row8 .ensures, c .before .fen-shou-xian .ensures, c .before .before .quarter-of3 .ensures, c .before .before .before .pair-a5 .ensures, c .before .before .before .before .match .keys8, read .back3 .ensures, read .before .back2 .ensures, read .before .before .back .ensures)
+    simp (c .row8 .ensures, c .before .fen-shou-xian .ensures, c .before .before .quarter-of3 .ensures, c .before .before .before .pair-a5 .ensures, c .before .before .before .before .match .keys8, read .before .back2 .ensures, read .before .before .back .ensures)
 
 returns-9 : tie.Need-returns-9
 unfolding judgeOf rowOf rows
 returns-9 c =
     let read = c .before .before .before .before .before in
-    simp (c .row9 .ensures, c .before .zhu-huo-xian .ensures, c .before .before .quarter-of4 .ensures, c .before .before .before .pair-a6 .ensures, c .before .before .before .before .match .keys9, read .back3 .ensures, read .before .back2 .ensures, read .before .before .back .ensures)
+    simp (c .row9 .ensures, c .before .zhu-huo-xian .ensures, c .before .before .quarter-of4 .ensures, c .before .before .before .pair-a6 .ensures, c .before .before .before .before .match .keys9, read .before .before .back .ensures)
 
 returns-10 : tie.Need-returns-10
 unfolding judgeOf rowOf rows
 returns-10 c =
     let read = c .before .before .before .before in
-    simp (c .row10 .ensures, c .before .yun-xian .ensures, c .before .before .pair-b4 .ensures, c .before .before .before .match .keys10, read .back3 .ensures, read .before .back2 .ensures, read .before .before .back .ensures)
+    simp (c .row10 .ensures, c .before .yun-xian .ensures, c .before .before .pair-b4 .ensures, c .before .before .before .match .keys10, read .before .back2 .ensures, read .before .before .back .ensures)
 
 returns-11 : tie.Need-returns-11
 unfolding judgeOf rowOf rows
 returns-11 c =
     let read = c .before .before .before .before in
-    simp (c .row11 .ensures, c .before .ping-tou .ensures, c .before .before .pair-b5 .ensures, c .before .before .before .match .keys11, read .back3 .ensures, read .before .back2 .ensures, read .before .before .back .ensures)
+    simp (c .row11 .ensures, c .before .ping-tou .ensures, c .before .before .pair-b5 .ensures, c .before .before .before .match .keys11, read .before .back2 .ensures, read .before .before .back .ensures)
 
 returns-12 : tie.Need-returns-12
 unfolding judgeOf rowOf rows
@@ -89,7 +87,7 @@ returns-14 : tie.Need-returns-14
 unfolding judgeOf rowOf rows
 returns-14 c =
     let read = c .before .before .before .before in
-    simp (c .row14 .ensures, c .before .szx .ensures, c .before .before .pair-a8 .ensures, c .before .before .before .match .keys14, read .back3 .ensures, read .before .back2 .ensures, read .before .before .back .ensures)
+    simp (c .row14 .ensures, c .before .szx .ensures, c .before .before .pair-a8 .ensures, c .before .before .before .match .keys14, read .before .back2 .ensures, read .before .before .back .ensures)
 
 returns-15 : tie.Need-returns-15
 unfolding judgeOf rowOf rows
@@ -111,9 +109,7 @@ returns-17 c =
 
 returns-18 : tie.Need-returns-18
 unfolding judgeOf rowOf rows
-returns-18 c =
-    let read = c .before .before .before .before in
-    simp (c .row18 .ensures, c .before .ta-xing .ensures, c .before .before .pair-a9 .ensures, c .before .before .before .match .keys18, read .back3 .ensures, read .before .back2 .ensures, read .before .before .back .ensures)
+returns-18 c = simp (c .row18 .ensures, c .before .ta-xing .ensures, c .before .before .pair-a9 .ensures, c .before .before .before .match .keys18)
 
 returns-19 : tie.Need-returns-19
 returns-19 c =
