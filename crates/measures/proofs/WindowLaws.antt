@@ -13,7 +13,7 @@ use lib.Ieee.{Float}
 use borrow.Author.Tests.{eqb-false, ltb-true, ltb-false, leb-true, leb-false, eq-eqb, ne-eqb, lt-ltb, le-ltb}
 use Rattle.measures.specs.declared.bars.Bar.{Bar}
 use Rattle.measures.specs.Bar.{noBar, barsOf}
-use Rattle.measures.specs.Window.{upTo, newest, windowOf, backOf, pricesFrom, partOf}
+use Rattle.measures.specs.Window.{upTo, newest, windowOf, backOf, partOf}
 use Rattle.measures.proofs.RunLaws.{length-bars, bars-part, from-bar, past-bars}
 
 -- ---- p

@@ -3,10 +3,9 @@
 use Prim.Native.Nat.{ℕ, zero, suc}
 use mathlib.Core.Path.{_≡_, refl}
 use mathlib.Core.List.{List, [], _∷_, _++_}
-use lib.Dec.{leb, ltb, eqb}
 use lib.ListN.{length}
 use lib.Count.{trailingZeros}
-use lib.Ieee.{Float, binary64, ofInt, ofBits, ofFields, toUnsigned, round, size, span, climb, units, odd, lt, eq, le, ne, add, sub, mul, div, sum, neg, isNan}
+use lib.Ieee.{binary64, ofInt, ofBits, ofFields, toUnsigned, round, size, span, climb, units, odd, lt, eq, le, ne, add, sub, mul, div, sum, neg, isNan}
 use Rattle.measures.specs.declared.bars.Bar.{Bar}
 use Rattle.measures.specs.Price.{maxOf, minOf, absOf, squareOf}
 use Rattle.measures.specs.Bar.{barOf, bodyOf, upperOf, lowerOf, dojiOf}

@@ -191,6 +191,67 @@ pub fn lengths(recogniser: usize, offset: u32, case: &Case) -> Vec<usize> {
     (1..=all).filter(|n| answer(*n) != answer(*n - 1)).collect()
 }
 
+/// A threshold of a recogniser: the place among the whole ones or among the two others.
+#[derive(Clone, Copy)]
+enum Threshold {
+    Whole(usize),
+    Real(usize),
+}
+
+use Threshold::{Real, Whole};
+
+/// The thirteen thresholds with their recognisers.
+const THRESHOLDS: [(usize, Threshold); 13] = [
+    (0, Real(0)),
+    (2, Whole(0)),
+    (2, Whole(1)),
+    (3, Whole(2)),
+    (3, Whole(3)),
+    (5, Whole(4)),
+    (6, Whole(5)),
+    (7, Whole(6)),
+    (8, Real(1)),
+    (8, Whole(7)),
+    (10, Whole(8)),
+    (13, Whole(9)),
+    (14, Whole(10)),
+];
+
+/// Sets a threshold next to where the answer of its recogniser changes, if that is somewhere.
+pub fn fit_threshold(rng: &mut Rng, case: &mut Case) {
+    let (k, threshold) = rng.pick(&THRESHOLDS);
+    let offset = rng.pick(&case.offsets);
+    let mut reals = case.thresholds.reals();
+    let mut wholes = case.thresholds.wholes();
+    // Both kinds are searched as whole numbers; an f64 that is not negative by its bits.
+    let most = match threshold {
+        Whole(_) => 1_000_000,
+        Real(_) => 10_000.0_f64.to_bits(),
+    };
+    let mut set = |value: u64| {
+        match threshold {
+            Whole(i) => wholes[i] = value as u32,
+            Real(i) => reals[i] = f64::from_bits(value),
+        }
+        Thresholds::from_parts(reals, wholes)
+    };
+    let mut answer = |value: u64| port::label(k, offset, &set(value), &case.bars);
+    let start = answer(0);
+    if answer(most) == start {
+        return;
+    }
+    let (mut same, mut other) = (0, most);
+    while other - same > 1 {
+        let middle = same.midpoint(other);
+        if answer(middle) == start {
+            same = middle;
+        } else {
+            other = middle;
+        }
+    }
+    case.thresholds = set(rng.pick(&[same, other]));
+}
+
 /// The place of a price in the order of all f64, −0 before +0.
 fn rank(price: f64) -> u64 {
     let bits = price.to_bits();

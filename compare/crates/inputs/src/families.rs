@@ -226,4 +226,7 @@ fn thresholds(rng: &mut Rng, case: &mut Case) {
         }
     });
     case.thresholds = Thresholds::from_parts(reals, wholes);
+    if rng.one_in(2) {
+        boundaries::fit_threshold(rng, case);
+    }
 }

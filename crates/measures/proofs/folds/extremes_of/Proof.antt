@@ -1,7 +1,7 @@
 -- The loop's invariant: what is left to fold, from what was found so far, gives what the whole run gives; neither extreme is NaN, so
 -- that one comparison is the fold's step. Assumes nothing.
 use Prim.Native.Nat.{_≤_, _-_}
-use mathlib.Core.Path.{_≡_, refl, sym, _∙_}
+use mathlib.Core.Path.{_≡_, sym, _∙_}
 use mathlib.Core.Bool.{true, false}
 use mathlib.Core.List.{foldl}
 use native.Mathlib.Omega.{arith}

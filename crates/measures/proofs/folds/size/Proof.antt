@@ -1,5 +1,4 @@
 -- A column has a price for each bar.
-use mathlib.Core.Path.{_∙_}
 use lib.ListN.{length-map}
 use Rattle.measures.specs.Fold.{sizeOf, columnOf}
 use Rattle.measures.proofs.folds.size.Statement.{statement}

@@ -1,5 +1,4 @@
 -- The loop squares as it sums; the definition sums the squares.
-use mathlib.Core.Path.{sym}
 use mathlib.Core.List.{foldl-map}
 use Rattle.measures.specs.Fold.{varianceOf, sumOf}
 use Rattle.measures.proofs.folds.variance.Statement.{statement}

@@ -1,8 +1,7 @@
 -- Only a NaN differs from itself.
 use mathlib.Core.Path.{_≡_, refl}
-use Prim.Native.Nat.{ℕ, _*_}
+use Prim.Native.Nat.{_*_}
 use mathlib.Core.Bool.{true, false}
-use lib.Dec.{T, eqb, eqb-refl}
 use lib.Ieee.{Float, nan, inf, fin, up, down, ne, isNan}
 use borrow.Author.Tests.{eq-eqb}
 use Rattle.measures.proofs.price.is_nan.Statement.{statement}

@@ -1,5 +1,4 @@
 -- The choice of the code is the definition's: there is one NaN. Assumes nothing.
-use mathlib.Core.Path.{_∙_}
 use Rattle.measures.proofs.Order.{max-by-choice}
 use Rattle.measures.proofs.price.max.Statement.{statement}
 use Rattle.measures.proofs.price.max.Tie as tie

@@ -1,5 +1,4 @@
 use borrow.Author.Tests.{eq-eqb, ne-eqb, lt-ltb, le-ltb}
-use native.Mathlib.Omega.{arith}
 use Rattle.measures.specs.Window.{upTo}
 use borrow.Author.Needs.{needs}
 use Rattle.measures.proofs.windows.up_to.Statement.{statement}

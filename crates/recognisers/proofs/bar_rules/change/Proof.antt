@@ -1,6 +1,5 @@
 -- The code is the definition.
 use Rattle.recognisers.specs.BarRule.{changeOf}
-use borrow.Author.Needs.{needs}
 use Rattle.recognisers.proofs.bar_rules.change.Statement.{statement}
 use Rattle.recognisers.proofs.bar_rules.change.Tie as tie
 

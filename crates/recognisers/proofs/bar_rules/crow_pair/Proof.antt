@@ -1,6 +1,5 @@
 -- The code is the definition.
 use Rattle.recognisers.specs.BarRule.{crowPair}
-use borrow.Author.Needs.{needs}
 use Rattle.recognisers.proofs.bar_rules.crow_pair.Statement.{statement}
 use Rattle.recognisers.proofs.bar_rules.crow_pair.Tie as tie
 

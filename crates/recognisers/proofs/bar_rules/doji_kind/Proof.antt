@@ -1,6 +1,5 @@
 -- The code is the definition.
 use Rattle.recognisers.specs.BarRule.{dojiKind}
-use borrow.Author.Needs.{needs}
 use Rattle.recognisers.proofs.bar_rules.doji_kind.Statement.{statement}
 use Rattle.recognisers.proofs.bar_rules.doji_kind.Tie as tie
 

@@ -1,6 +1,5 @@
 -- The code is the definition.
 use Rattle.recognisers.specs.BarRule.{gapYinYang}
-use borrow.Author.Needs.{needs}
 use Rattle.recognisers.proofs.bar_rules.gap_yin_yang.Statement.{statement}
 use Rattle.recognisers.proofs.bar_rules.gap_yin_yang.Tie as tie
 

@@ -1,6 +1,5 @@
 -- The code is the definition.
 use Rattle.recognisers.specs.BarRule.{eveningOf}
-use borrow.Author.Needs.{needs}
 use Rattle.recognisers.proofs.bar_rules.is_evening.Statement.{statement}
 use Rattle.recognisers.proofs.bar_rules.is_evening.Tie as tie
 

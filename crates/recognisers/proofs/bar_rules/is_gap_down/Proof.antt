@@ -1,6 +1,5 @@
 -- The code is the definition.
 use Rattle.recognisers.specs.BarRule.{gapDownOf}
-use borrow.Author.Needs.{needs}
 use Rattle.recognisers.proofs.bar_rules.is_gap_down.Statement.{statement}
 use Rattle.recognisers.proofs.bar_rules.is_gap_down.Tie as tie
 

@@ -1,6 +1,5 @@
 -- The code is the definition.
 use Rattle.recognisers.specs.BarRule.{gapUpOf}
-use borrow.Author.Needs.{needs}
 use Rattle.recognisers.proofs.bar_rules.is_gap_up.Statement.{statement}
 use Rattle.recognisers.proofs.bar_rules.is_gap_up.Tie as tie
 

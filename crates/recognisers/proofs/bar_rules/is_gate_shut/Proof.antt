@@ -1,6 +1,5 @@
 -- The code is the definition.
 use Rattle.recognisers.specs.BarRule.{gateShut}
-use borrow.Author.Needs.{needs}
 use Rattle.recognisers.proofs.bar_rules.is_gate_shut.Statement.{statement}
 use Rattle.recognisers.proofs.bar_rules.is_gate_shut.Tie as tie
 

@@ -1,6 +1,5 @@
 -- The code is the definition.
 use Rattle.recognisers.specs.BarRule.{morningOf}
-use borrow.Author.Needs.{needs}
 use Rattle.recognisers.proofs.bar_rules.is_morning.Statement.{statement}
 use Rattle.recognisers.proofs.bar_rules.is_morning.Tie as tie
 

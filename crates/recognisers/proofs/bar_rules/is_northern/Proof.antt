@@ -1,6 +1,5 @@
 -- The code is the definition.
 use Rattle.recognisers.specs.BarRule.{northernOf}
-use borrow.Author.Needs.{needs}
 use Rattle.recognisers.proofs.bar_rules.is_northern.Statement.{statement}
 use Rattle.recognisers.proofs.bar_rules.is_northern.Tie as tie
 

@@ -1,6 +1,5 @@
 -- The code is the definition.
 use Rattle.recognisers.specs.BarRule.{pingTou}
-use borrow.Author.Needs.{needs}
 use Rattle.recognisers.proofs.bar_rules.ping_tou.Statement.{statement}
 use Rattle.recognisers.proofs.bar_rules.ping_tou.Tie as tie
 

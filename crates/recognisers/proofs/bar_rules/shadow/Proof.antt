@@ -1,6 +1,5 @@
 -- The code is the definition.
 use Rattle.recognisers.specs.BarRule.{longShadow}
-use borrow.Author.Needs.{needs}
 use Rattle.recognisers.proofs.bar_rules.shadow.Statement.{statement}
 use Rattle.recognisers.proofs.bar_rules.shadow.Tie as tie
 

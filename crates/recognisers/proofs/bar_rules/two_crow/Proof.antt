@@ -1,6 +1,5 @@
 -- The code is the definition.
 use Rattle.recognisers.specs.BarRule.{twoCrow}
-use borrow.Author.Needs.{needs}
 use Rattle.recognisers.proofs.bar_rules.two_crow.Statement.{statement}
 use Rattle.recognisers.proofs.bar_rules.two_crow.Tie as tie
 

@@ -1,6 +1,5 @@
 -- The code is the definition.
 use Rattle.recognisers.specs.BarRule.{yunXian}
-use borrow.Author.Needs.{needs}
 use Rattle.recognisers.proofs.bar_rules.yun_xian.Statement.{statement}
 use Rattle.recognisers.proofs.bar_rules.yun_xian.Tie as tie
 

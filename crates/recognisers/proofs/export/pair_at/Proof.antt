@@ -1,10 +1,9 @@
 -- The windows are those of the history; a recogniser without a gate is handed an empty one. Assumes nothing.
-use mathlib.Core.Path.{_∙_, sym}
 use native.Mathlib.Omega.{arith}
 use borrow.Author.Needs.{needs}
-use lib.ListN.{length, length-take}
+use lib.ListN.{length-take}
 use Rattle.measures.specs.Bar.{barsOf}
-use Rattle.measures.specs.Window.{windowOf, upTo}
+use Rattle.measures.specs.Window.{windowOf}
 use Rattle.recognisers.specs.Number.{reachBars}
 use Rattle.recognisers.specs.Table.{pairAt}
 use Rattle.recognisers.specs.Export.{pricesOf}

@@ -1,5 +1,5 @@
 -- The loop's invariant: the search from n on gives what the whole search gives. Assumes nothing.
-use Prim.Native.Nat.{_+_, _-_, _≤_, _<_}
+use Prim.Native.Nat.{_+_, _-_, _≤_}
 use mathlib.Core.Path.{_≡_, refl, sym, _∙_}
 use native.Mathlib.Omega.{arith}
 use Rattle.measures.specs.Bar.{barsOf}

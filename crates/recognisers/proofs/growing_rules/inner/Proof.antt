@@ -1,6 +1,5 @@
 -- The code is the definition.
 use Rattle.recognisers.specs.GrowingRule.{innerOf}
-use borrow.Author.Needs.{needs}
 use Rattle.recognisers.proofs.growing_rules.inner.Statement.{statement}
 use Rattle.recognisers.proofs.growing_rules.inner.Tie as tie
 

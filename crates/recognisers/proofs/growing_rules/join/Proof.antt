@@ -1,6 +1,5 @@
 -- The code is the definition.
 use Rattle.recognisers.specs.GrowingRule.{joined}
-use borrow.Author.Needs.{needs}
 use Rattle.recognisers.proofs.growing_rules.join.Statement.{statement}
 use Rattle.recognisers.proofs.growing_rules.join.Tie as tie
 

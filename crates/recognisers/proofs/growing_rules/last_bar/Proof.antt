@@ -1,6 +1,5 @@
 -- The code is the definition.
 use Rattle.recognisers.specs.GrowingRule.{lastOf}
-use borrow.Author.Needs.{needs}
 use Rattle.recognisers.proofs.growing_rules.last_bar.Statement.{statement}
 use Rattle.recognisers.proofs.growing_rules.last_bar.Tie as tie
 

@@ -1,12 +1,10 @@
 -- The loop's invariant: the leaders of the i newest bars are found. Assumes nothing.
 use Prim.Native.Nat.{_≤_, _-_}
-use mathlib.Core.Path.{_≡_, refl, sym, _∙_, ap}
-use mathlib.Core.List.{List}
+use mathlib.Core.Path.{_≡_, _∙_}
 use native.Mathlib.Omega.{arith}
 use lib.ListN.{length}
-use Rattle.measures.specs.declared.bars.Bar.{Bar}
 use Rattle.measures.specs.Bar.{barsOf}
-use Rattle.measures.specs.Window.{newest, backOf}
+use Rattle.measures.specs.Window.{newest}
 use Rattle.measures.proofs.WindowLaws.{newest-more, newest-none, newest-all}
 use Rattle.recognisers.specs.GrowingRule.{leadersOf}
 use Rattle.recognisers.proofs.GrowingLaws.{leaders-grow}

@@ -1,6 +1,5 @@
 -- The code is the definition.
 use Rattle.recognisers.specs.GrowingRule.{leadersOf, bodiesDown, bodiesKnown}
-use borrow.Author.Needs.{needs}
 use Rattle.recognisers.proofs.growing_rules.no_leaders.Statement.{statement}
 use Rattle.recognisers.proofs.growing_rules.no_leaders.Tie as tie
 

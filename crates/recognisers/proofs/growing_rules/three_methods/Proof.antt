@@ -1,6 +1,5 @@
 -- The code is the definition.
 use Rattle.recognisers.specs.GrowingRule.{threeMethods}
-use borrow.Author.Needs.{needs}
 use Rattle.recognisers.proofs.growing_rules.three_methods.Statement.{statement}
 use Rattle.recognisers.proofs.growing_rules.three_methods.Tie as tie
 

@@ -1,6 +1,5 @@
 -- The code is the definition.
 use Rattle.recognisers.specs.QuarterRule.{countersOf}
-use borrow.Author.Needs.{needs}
 use Rattle.recognisers.proofs.quarter_rules.counters.Statement.{statement}
 use Rattle.recognisers.proofs.quarter_rules.counters.Tie as tie
 

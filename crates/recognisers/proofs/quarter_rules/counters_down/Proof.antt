@@ -1,5 +1,4 @@
 -- The code is the definition.
-use borrow.Author.Needs.{needs}
 use Rattle.recognisers.proofs.quarter_rules.counters_down.Statement.{statement}
 use Rattle.recognisers.proofs.quarter_rules.counters_down.Tie as tie
 

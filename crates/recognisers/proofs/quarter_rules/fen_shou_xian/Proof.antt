@@ -1,6 +1,5 @@
 -- The code is the definition.
 use Rattle.recognisers.specs.QuarterRule.{fenShouXian}
-use borrow.Author.Needs.{needs}
 use Rattle.recognisers.proofs.quarter_rules.fen_shou_xian.Statement.{statement}
 use Rattle.recognisers.proofs.quarter_rules.fen_shou_xian.Tie as tie
 

@@ -1,6 +1,5 @@
 -- The code is the definition.
 use Rattle.recognisers.specs.QuarterRule.{umbrellaOf}
-use borrow.Author.Needs.{needs}
 use Rattle.recognisers.proofs.quarter_rules.is_umbrella.Statement.{statement}
 use Rattle.recognisers.proofs.quarter_rules.is_umbrella.Tie as tie
 

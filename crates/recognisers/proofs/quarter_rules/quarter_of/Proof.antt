@@ -1,6 +1,5 @@
 -- The code is the definition.
 use Rattle.recognisers.specs.QuarterRule.{quarterOf}
-use borrow.Author.Needs.{needs}
 use Rattle.recognisers.proofs.quarter_rules.quarter_of.Statement.{statement}
 use Rattle.recognisers.proofs.quarter_rules.quarter_of.Tie as tie
 

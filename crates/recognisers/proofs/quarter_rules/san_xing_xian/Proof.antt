@@ -1,6 +1,5 @@
 -- The code is the definition.
 use Rattle.recognisers.specs.QuarterRule.{sanXingXian}
-use borrow.Author.Needs.{needs}
 use Rattle.recognisers.proofs.quarter_rules.san_xing_xian.Statement.{statement}
 use Rattle.recognisers.proofs.quarter_rules.san_xing_xian.Tie as tie
 

@@ -1,6 +1,5 @@
 -- The code is the definition.
 use Rattle.recognisers.specs.QuarterRule.{tenMo}
-use borrow.Author.Needs.{needs}
 use Rattle.recognisers.proofs.quarter_rules.ten_mo.Statement.{statement}
 use Rattle.recognisers.proofs.quarter_rules.ten_mo.Tie as tie
 

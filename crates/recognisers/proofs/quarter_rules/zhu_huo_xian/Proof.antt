@@ -1,6 +1,5 @@
 -- The code is the definition.
 use Rattle.recognisers.specs.QuarterRule.{zhuHuoXian}
-use borrow.Author.Needs.{needs}
 use Rattle.recognisers.proofs.quarter_rules.zhu_huo_xian.Statement.{statement}
 use Rattle.recognisers.proofs.quarter_rules.zhu_huo_xian.Tie as tie
 

@@ -1,6 +1,5 @@
 -- Each arm of the match is a row of the table; what no arm has is past it. Assumes nothing.
 use mathlib.Core.Path.{_∙_, sym}
-use borrow.Author.Needs.{needs}
 use Rattle.measures.specs.Bar.{barsOf}
 use Rattle.recognisers.specs.Table.{judgeOf, rowOf, rows}
 use Rattle.recognisers.proofs.TableLaws.{judge-past, apart-from}

@@ -1,6 +1,5 @@
 -- The code is the definition.
 use Rattle.recognisers.specs.Threshold.{validOf}
-use borrow.Author.Needs.{needs}
 use Rattle.recognisers.proofs.thresholds.Thresholds.is_valid.Statement.{statement}
 use Rattle.recognisers.proofs.thresholds.Thresholds.is_valid.Tie as tie
 
