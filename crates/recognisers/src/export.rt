@@ -64,24 +64,16 @@ fn price_at(s: &[u8], at: usize) -> f64
     of_bits(word(s, at))
 }
 
-// The n prices of the bytes from at on, and zeros after them. A rule sees at most 22 bars.
-fn prices_at(s: &[u8], at: usize, n: usize) -> [f64; 88]
-    requires { ⌜ (n ≤ 88) × (at + 8 * n ≤ length (now s)) ⌝ }
-    ensures { λ r. ⌜ (length r ≡ 88) × (take n r ≡ pricesAt (now (s .entry)) at n) ⌝ }
+// The n prices of the bytes from at on go into the first places.
+fn prices_at(s: &[u8], at: usize, n: usize, out: &mut [f64])
+    requires { ⌜ (n ≤ length (now out)) × (at + 8 * n ≤ length (now s)) ⌝ }
+    ensures { λ _. ⌜ take n (now (out .exit)) ≡ pricesAt (now (s .entry)) at n ⌝ }
 {
-    let mut out = [0.0; 88];
     let mut i = 0usize;
     while i < n {
         out[i] = price_at(s, at + 8 * i);
         i += 1;
     }
-    out
-}
-
-// The prices of a window of at most 22 bars, and how many there are.
-struct Window {
-    prices: [f64; 88],
-    len: usize,
 }
 
 // The smaller of two counts.
@@ -91,23 +83,22 @@ fn least(a: usize, b: usize) -> usize
     if a < b { a } else { b }
 }
 
-// The last n bars up to the judged one, out of the bytes of a history.
-fn decode(s: &[u8], di: usize, n: usize) -> Window
-    requires { ⌜ n ≤ 22 ⌝ }
-    ensures { λ r. ⌜ (length (r .prices) ≡ 88) × (r .len ≤ 88) × (barsOf (take (r .len) (r .prices)) ≡ windowOf (barsOf (pricesOf (now (s .entry)))) di n) ⌝ }
+// The prices of the last n bars up to the judged one, out of the bytes of a history, go into the first places; the answer is how
+// many prices there are.
+fn decode(s: &[u8], di: usize, n: usize, out: &mut [f64]) -> usize
+    requires { ⌜ 4 * n ≤ length (now out) ⌝ }
+    ensures { λ r. ⌜ (r ≤ 4 * n) × (barsOf (take r (now (out .exit))) ≡ windowOf (barsOf (pricesOf (now (s .entry)))) di n) ⌝ }
 {
     let p = measures::up_to(s.len() / 32, di);
     let m = least(n, p);
     let len = 4 * m;
-    Window {
-        prices: prices_at(s, 32 * (p - m), len),
-        len,
-    }
+    prices_at(s, 32 * (p - m), len, out);
+    len
 }
 
 // The bars of the gate's window: none for a recogniser without a gate.
 fn gate_bars(k: u32) -> usize
-    ensures { λ r. ⌜ (r ≡ cond (eqb k gated) quarterBars 0) × (r ≤ 22) ⌝ }
+    ensures { λ r. ⌜ (r ≡ cond (eqb k gated) quarterBars 0) × (r ≤ quarterBars) ⌝ }
 {
     if k == counts::GATED {
         counts::QUARTER_BARS
@@ -122,13 +113,11 @@ fn pair_at(k: u32, t: Thresholds, di: u32, s: &[u8]) -> Pair
 {
     let len = s.len() / 32;
     let p = measures::up_to(len, di as usize);
-    let w = decode(s, di as usize, counts::REACH_BARS);
-    let gate = decode(s, counts::GATE_END, gate_bars(k));
-    let w_prices = w.prices;
-    let w_len = w.len;
-    let gate_prices = gate.prices;
-    let gate_len = gate.len;
-    table::judge(k, t, len, p, &w_prices[..w_len], &gate_prices[..gate_len])
+    let mut w = [0.0; 88];
+    let w_len = decode(s, di as usize, counts::REACH_BARS, &mut w);
+    let mut gate = [0.0; 80];
+    let gate_len = decode(s, counts::GATE_END, gate_bars(k), &mut gate);
+    table::judge(k, t, len, p, &w[..w_len], &gate[..gate_len])
 }
 
 // v1 × 256 + v2 of a pair.

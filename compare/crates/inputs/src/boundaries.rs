@@ -121,16 +121,8 @@ impl Boundary {
     /// Two neighbouring prices between `old`, whose answer is `start`, and `new`, whose is not: the
     /// first has that answer, the second another.
     fn narrow(&mut self, start: u32, old: f64, new: f64) -> [f64; 2] {
-        let (mut same, mut other) = (rank(old), rank(new));
-        while same.abs_diff(other) > 1 {
-            let middle = same.midpoint(other);
-            if self.answer(price_of(middle)) == start {
-                same = middle;
-            } else {
-                other = middle;
-            }
-        }
-        [price_of(same), price_of(other)]
+        let stays = |rank| self.answer(price_of(rank)) == start;
+        narrow(rank(old), rank(new), stays).map(price_of)
     }
 
     pub fn lay(&mut self, price: f64) {
@@ -240,16 +232,22 @@ pub fn fit_threshold(rng: &mut Rng, case: &mut Case) {
     if answer(most) == start {
         return;
     }
-    let (mut same, mut other) = (0, most);
-    while other - same > 1 {
+    let sides = narrow(0, most, |value| answer(value) == start);
+    case.thresholds = set(rng.pick(&sides));
+}
+
+/// Two neighbouring numbers between `same`, which passes the test, and `other`, which does not: the
+/// first passes, the second does not.
+fn narrow(mut same: u64, mut other: u64, mut passes: impl FnMut(u64) -> bool) -> [u64; 2] {
+    while same.abs_diff(other) > 1 {
         let middle = same.midpoint(other);
-        if answer(middle) == start {
+        if passes(middle) {
             same = middle;
         } else {
             other = middle;
         }
     }
-    case.thresholds = set(rng.pick(&[same, other]));
+    [same, other]
 }
 
 /// The place of a price in the order of all f64, −0 before +0.

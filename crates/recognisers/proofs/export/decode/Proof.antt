@@ -12,21 +12,26 @@ use Rattle.recognisers.proofs.export.decode.Tie as tie
 
 mul-prices-at : tie.Need-mul-prices-at
 mul-prices-at c =
-    let args = c .before .before .before .args in
+    let args = c .before .before .before .before .args in
     omega (arith, c .before .up-to .ensures, upTo-le (length (args .s .now) / 32) (args .di))
 
 prices-at-requires : tie.Need-prices-at-requires
 prices-at-requires c κs =
-    let args = c .before .before .before .args in
-    omega (arith, c .least .ensures, c .before .up-to .ensures, upTo-le (length (args .s .now) / 32) (args .di))
+    let read = c .before in
+    let args = read .before .before .before .before .args in
+    omega (arith, read .least .ensures, read .before .up-to .ensures, upTo-le (length (args .s .now) / 32) (args .di))
+
+same-length : tie.Need-same-length
+same-length c = c .before .before .prices-at .kept .1 .1 .1 .0
 
 returns : tie.Need-returns
 returns c =
-    let args = c .before .before .before .before .args in
-    let read = c .prices-at .ensures in
-    (read .0, omega (arith, c .before .least .ensures), ap barsOf (read .1) ∙ simp (c .before .least .ensures, c .before .before .up-to .ensures) (window-bytes (args .s .now) (args .di) (args .n)))
+    let call = c .before .before in
+    let read = call .before .before in
+    let args = read .before .before .before .before .args in
+    (omega (arith, read .least .ensures), ap barsOf (call .prices-at .ensures) ∙ simp (read .least .ensures, read .before .up-to .ensures) (window-bytes (args .s .now) (args .di) (args .n)))
 
 pub decode-spec : {M : Type 1} → statement M
 decode-spec =
     tie.close
-    (tie.spec (λ c κs. tt) (λ c κs. tt) (λ c. search needs) (λ c. search needs) mul-prices-at prices-at-requires returns)
+    (tie.spec (λ c κs. tt) (λ c κs. tt) (λ c. search needs) (λ c. search needs) mul-prices-at prices-at-requires same-length returns)

@@ -12,32 +12,57 @@ use Rattle.recognisers.proofs.TableLaws.{gate-enough}
 use Rattle.recognisers.proofs.export.pair_at.Statement.{statement}
 use Rattle.recognisers.proofs.export.pair_at.Tie as tie
 
+slice-aggregate-decode : tie.Need-slice-aggregate-decode
+slice-aggregate-decode c = search needs
+
+slice-aggregate-decode-2 : tie.Need-slice-aggregate-decode-2
+slice-aggregate-decode-2 c = search needs
+
+decode-requires : tie.Need-decode-requires
+decode-requires c κs = search needs
+
+decode-requires-2 : tie.Need-decode-requires-2
+decode-requires-2 c κs = search needs
+
+array-share-prefix-w : tie.Need-array-share-prefix-w
+array-share-prefix-w c = search needs
+
+array-share-prefix-gate : tie.Need-array-share-prefix-gate
+array-share-prefix-gate c = search needs
+
 slice-aggregate-judge : tie.Need-slice-aggregate-judge
-slice-aggregate-judge c = simp length-take (omega arith)
+slice-aggregate-judge c =
+    let call = c .before .before .before .before .before .before in
+    simp length-take (omega (arith, call .decode .kept .1 .1 .1 .0))
 
 slice-aggregate-judge-2 : tie.Need-slice-aggregate-judge-2
-slice-aggregate-judge-2 c = simp length-take (omega arith)
+slice-aggregate-judge-2 c =
+    let call = c .before .before .before in
+    simp length-take (omega (arith, call .decode2 .kept .1 .1 .1 .0))
 
 returns : tie.Need-returns
 unfolding pairAt
 returns c =
-    let gate = c .before .before .before .before .before in
-    let window = gate .before .before in
-    let args = window .before .before .before .args in
+    let gate = c .before .before .before .before in
+    let bars = gate .before .before in
+    let window = bars .before .before in
+    let args = window .before .before .before .before .args in
     let history = barsOf (pricesOf (args .s .now)) in
-    simp (c .judge .ensures, gate .decode2 .ensures .2, gate .before .gate-bars .ensures .0, window .decode .ensures .2, window .before .up-to .ensures, length-history (args .s .now)) (gate-enough (args .k) (args .t) _ _ (windowOf history (args .di) reachBars) history)
+    simp (c .judge .ensures, gate .decode2 .ensures .1, bars .gate-bars .ensures .0, window .decode .ensures .1, window .before .before .up-to .ensures, length-history (args .s .now)) (gate-enough (args .k) (args .t) _ _ (windowOf history (args .di) reachBars) history)
 
 pub pair-at-spec : {M : Type 1} → statement M
 pair-at-spec =
     tie.close
     (tie.spec
     (λ c κs. tt)
-    (λ c κs. search needs)
+    slice-aggregate-decode
+    decode-requires
     (λ c κs. tt)
-    (λ c κs. search needs)
-    (λ c. search needs)
+    slice-aggregate-decode-2
+    decode-requires-2
+    array-share-prefix-w
     slice-aggregate-judge
-    (λ c. search needs)
+    array-share-prefix-gate
     slice-aggregate-judge-2
     (λ c κs. tt)
     returns)

@@ -11,7 +11,7 @@ use Rattle.recognisers.proofs.export.prices_at.Statement.{statement}
 use Rattle.recognisers.proofs.export.prices_at.Tie as tie
 
 abbrev Inv-loop : tie.InvT-loop
-Inv-loop s at n out₀ i₀ out i = (i ≤ n) × (length out ≡ 88) × (take i out ≡ pricesAt s at i)
+Inv-loop s at n out₀ i₀ out i = (i ≤ n) × (length out ≡ length out₀) × (take i out ≡ pricesAt s at i)
 
 abbrev μ-loop : tie.MeasureT-loop
 μ-loop s at n out₀ i₀ out i = n - i
@@ -32,8 +32,8 @@ price-at-requires c κs = omega arith
 mul-out : tie.Need-mul-out Inv-loop μ-loop
 mul-out c = omega arith
 
-array-write-out : tie.Need-array-write-out Inv-loop μ-loop
-array-write-out c = omega arith
+slice-write-out : tie.Need-slice-write-out Inv-loop μ-loop
+slice-write-out c = omega arith
 
 add-i : tie.Need-add-i Inv-loop μ-loop
 add-i c = omega arith
@@ -47,10 +47,13 @@ loop-again c =
     let inside : now .i < length (now .out) = omega arith in
     (omega arith, simp length-set (now .inv .1), rw (add-one, take-suc-set, prices-more, now .inv .2, c .price-at .ensures))
 
+same-length : tie.Need-same-length Inv-loop μ-loop
+same-length c = c .before .loop .inv .1
+
 returns : tie.Need-returns Inv-loop μ-loop
 returns c =
-    let e : c .before .before .before .args .n ≡ c .before .loop .i = omega arith in
-    (c .before .loop .inv .1, rw e (c .before .loop .inv .2))
+    let e : c .before .before .before .before .args .n ≡ c .before .loop .i = omega arith in
+    rw e (c .before .loop .inv .2)
 
 pub prices-at-spec : {M : Type 1} → statement M
 prices-at-spec =
@@ -63,8 +66,9 @@ prices-at-spec =
     add-price-at
     price-at-requires
     mul-out
-    array-write-out
+    slice-write-out
     add-i
     loop-less
     loop-again
+    same-length
     returns)
