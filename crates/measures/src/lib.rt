@@ -30,5 +30,6 @@ pub use price::pick;
 pub use windows::back;
 pub use windows::count;
 pub use windows::last_bars;
+pub use windows::least;
 pub use windows::up_to;
 pub use windows::window;

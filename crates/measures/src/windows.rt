@@ -69,7 +69,7 @@ pub fn back(prices: &[f64], i: usize) -> Bar
 }
 
 // The smaller of two counts.
-fn least(a: usize, b: usize) -> usize
+pub fn least(a: usize, b: usize) -> usize
     ensures { λ r. ⌜ r ≡ Nat.min a b ⌝ }
 {
     if a < b { a } else { b }

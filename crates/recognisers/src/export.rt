@@ -1,7 +1,6 @@
 // The export for a host program: numbers, thresholds and bars as bytes, 32 to a bar, each price's bits little-endian.
 ghost use mathlib.Core.Path.{_≡_};
 ghost use mathlib.Core.Bool.{cond};
-ghost use Prim.Native.Nat as Nat;
 ghost use Prim.Native.Nat.{_+_, _*_, _≤_, _<_};
 ghost use lib.Dec.{eqb};
 ghost use lib.ListN.{length, take};
@@ -76,13 +75,6 @@ fn prices_at(s: &[u8], at: usize, n: usize, out: &mut [f64])
     }
 }
 
-// The smaller of two counts.
-fn least(a: usize, b: usize) -> usize
-    ensures { λ r. ⌜ r ≡ Nat.min a b ⌝ }
-{
-    if a < b { a } else { b }
-}
-
 // The prices of the last n bars up to the judged one, out of the bytes of a history, go into the first places; the answer is how
 // many prices there are.
 fn decode(s: &[u8], di: usize, n: usize, out: &mut [f64]) -> usize
@@ -90,7 +82,7 @@ fn decode(s: &[u8], di: usize, n: usize, out: &mut [f64]) -> usize
     ensures { λ r. ⌜ (r ≤ 4 * n) × (barsOf (take r (now (out .exit))) ≡ windowOf (barsOf (pricesOf (now (s .entry)))) di n) ⌝ }
 {
     let p = measures::up_to(s.len() / 32, di);
-    let m = least(n, p);
+    let m = measures::least(n, p);
     let len = 4 * m;
     prices_at(s, 32 * (p - m), len, out);
     len
