@@ -105,6 +105,7 @@ fn pair_at(k: u32, t: Thresholds, di: u32, s: &[u8]) -> Pair
 {
     let len = s.len() / 32;
     let p = measures::up_to(len, di as usize);
+    // room for the 22 bars that a rule can see, and for the 20 of the gate
     let mut w = [0.0; 88];
     let w_len = decode(s, di as usize, counts::REACH_BARS, &mut w);
     let mut gate = [0.0; 80];

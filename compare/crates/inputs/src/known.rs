@@ -79,6 +79,10 @@ fn misreadings() -> Vec<Known> {
         th0,
         ..Thresholds::STANDARD
     };
+    let level = Thresholds {
+        th6: 0,
+        ..Thresholds::STANDARD
+    };
     vec![
         Known {
             name: "0.29 × 100 cut is 28",
@@ -89,6 +93,16 @@ fn misreadings() -> Vec<Known> {
             name: "a threshold of −0.0 is inside its limits",
             thresholds: th(-0.0),
             ..known(0, "100/200/200/99", Pair(Met, Other))
+        },
+        Known {
+            name: "6 with a th of 0: a level newest bar ends no morning star",
+            thresholds: level,
+            ..known(6, "12/11/13/10 6/4/7/3 8/8/9/7.5", Pair(Other, Any))
+        },
+        Known {
+            name: "6 with a th of 0: a level newest bar ends no evening star",
+            thresholds: level,
+            ..known(6, "1/2/3/0.5 4/6/7/3.9 3/3/3.5/2", Pair(Other, Any))
         },
         named(
             "a flat bar is no doji",
