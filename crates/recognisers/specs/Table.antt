@@ -45,7 +45,7 @@ b5 w = backOf w 5
 abbrev pub b6 : List Bar → Bar
 b6 w = backOf w 6
 
--- the highest of the ten closes that end before b2
+-- the ten bars that end before b2, of whose closes 2 reads the highest
 abbrev pub tenCloses : List Bar → List Bar
 tenCloses w = windowOf w 3 10
 
