@@ -1,11 +1,12 @@
 -- A run of prices and its bars: how many, which prices each has, and the bars of a part. Assumes nothing.
-use Prim.Native.Nat.{ℕ, zero, suc, _+_, _-_, _*_, _/_, _<_, _≤_}
-use mathlib.Core.Path.{_≡_, refl, ap}
+use Prim.Native.Nat.{ℕ, zero, suc, _+_, _-_, _*_, _/_, _<_, _≤_, min}
+use mathlib.Core.Path.{_≡_, refl, ap, sym, _∙_}
 use mathlib.Core.List.{List, [], _∷_}
 use native.Mathlib.Omega.{arith}
+use native.Mathlib.Decide.{decLe}
 use native.Mathlib.Numerals.{add-one, unary-clauses}
 use lib.ListN.{length, getD, take, drop, drop-of-length-le}
-use lib.Seq.{drop-cons, drop-nil, take-nil}
+use lib.Seq.{drop-cons, drop-nil, take-nil, take-length, take-all}
 use lib.Ieee.{Float}
 use Rattle.measures.specs.declared.bars.Bar.{Bar}
 use Rattle.measures.specs.Bar.{barOf, barFrom, noBar, barsOf}
@@ -42,6 +43,14 @@ from-bar bars i h = rw (add-one, drop-cons bars i noBar)
 -- no bar is left from the count on
 pub past-bars : (bars : List Bar) (i : ℕ) → length bars ≤ i → drop i bars ≡ []
 past-bars bars i h = drop-of-length-le bars h
+
+-- as many as there are at most
+pub take-least : (n : ℕ) (bars : List Bar) → take (min n (length bars)) bars ≡ take n bars
+take-least n bars =
+    elim (decLe n (length bars)) [
+      | yes h ↦ (let e : min n (length bars) ≡ n = omega arith in rw e)
+      | no g ↦ (let e : min n (length bars) ≡ length bars = omega arith in rw e (take-length bars ∙ sym (take-all n bars (omega arith))))
+    ]
 
 -- the bars of a part that begins and ends with a bar
 pub bars-drop : (k : ℕ) (ps : List Float) → barsOf (drop (k * 4) ps) ≡ drop k (barsOf ps)

@@ -2,7 +2,7 @@
 ghost use mathlib.Core.Path.{_≡_};
 ghost use Prim.Native.Nat as Nat;
 ghost use Prim.Native.Nat.{_+_, _-_, _<_, _≤_};
-ghost use lib.ListN.{length, getD};
+ghost use lib.ListN.{length, getD, take};
 ghost use Rattle.measures.specs.Bar.{barFrom, barsOf, noBar};
 ghost use Rattle.measures.specs.Window.{upTo, backOf, windowOf, pricesFrom, partOf};
 use crate::bars::Bar;
@@ -50,7 +50,7 @@ fn no_bar() -> Bar
 }
 
 // The i-th bar of a run, or a bar of NaN if there is none.
-fn bar_or_none(prices: &[f64], i: usize) -> Bar
+pub fn bar_or_none(prices: &[f64], i: usize) -> Bar
     ensures { λ r. ⌜ r ≡ getD (barsOf (now (prices .entry))) i noBar ⌝ }
 {
     if i < count(prices) {
@@ -96,6 +96,13 @@ fn part(prices: &[f64], from: usize, to: usize) -> &[f64]
     let a = from * 4;
     let e = to * 4;
     &prices[a..e]
+}
+
+// The prices of the first n bars of a run, or of all if there are fewer.
+pub fn first_bars(prices: &[f64], n: usize) -> &[f64]
+    ensures { λ r. ⌜ barsOf (now r) ≡ take n (barsOf (now (prices .entry))) ⌝ }
+{
+    part(prices, 0, least(n, count(prices)))
 }
 
 // The prices of the last n bars up to the judged one. Prices at the end of a run that make no whole bar are passed over.

@@ -1,7 +1,7 @@
 -- "The eighteen": the table, and the pair at an offset of a history.
-use Prim.Native.Nat.{ℕ}
+use Prim.Native.Nat.{ℕ, zero, suc, _+_}
 use mathlib.Core.Bool.{Bool, cond, _&&_}
-use mathlib.Core.List.{List, [], _∷_}
+use mathlib.Core.List.{List, [], _∷_, map}
 use lib.Dec.{ltb, leb, eqb}
 use lib.ListN.{getD}
 use Rattle.measures.specs.declared.bars.Bar.{Bar}
@@ -10,8 +10,8 @@ use Rattle.measures.specs.Window.{upTo, windowOf, backOf}
 use Rattle.measures.specs.Fold.{columnOf, highestOf}
 use Rattle.recognisers.specs.declared.label.Pair.{Pair}
 use Rattle.recognisers.specs.declared.thresholds.Thresholds.{Thresholds}
-use Rattle.recognisers.specs.Label.{pairA, pairB}
-use Rattle.recognisers.specs.Number.{gated, reachBars, quarterBars, gateEnd}
+use Rattle.recognisers.specs.Label.{codeOf, pairA, pairB}
+use Rattle.recognisers.specs.Number.{recognisers, gated, reachBars, quarterBars, gateEnd}
 use Rattle.recognisers.specs.QuarterRule.{quarterOf, quarterExtremes, sanXingXian, tenMo, fenShouXian, zhuHuoXian, fanJiXian}
 use Rattle.recognisers.specs.BarRule.{wuYunGaiDing, ciTou, sanFaV20221115, xingXian, yunXian, pingTou, twoCrow, gateShut, threeCrow, szx, sanSzx, gapYinYang}
 use Rattle.recognisers.specs.GrowingRule.{sanFaV20221118, taXing}
@@ -90,3 +90,23 @@ judgeOf k t len p w gate =
 -- window has the last 22 of them, and the gate's 20 bars end third from the newest
 unfoldable pub pairAt : ℕ → Thresholds → ℕ → List Bar → ℕ → Pair
 pairAt k t len history di = judgeOf k t len (upTo len di) (windowOf history di reachBars) (windowOf history gateEnd quarterBars)
+
+-- ---- all eighteen at once
+
+-- n numbers from k on
+unfoldable pub numbers : ℕ → ℕ → List ℕ
+numbers zero k = []
+numbers (suc n) k = k ∷ numbers n (k + 1)
+
+-- the pairs of the recognisers in the order of their numbers, at an offset of a history
+unfoldable pub pairsAt : Thresholds → ℕ → List Bar → ℕ → List Pair
+pairsAt t len history di = map (λ k. pairAt k t len history di) (numbers recognisers 0)
+
+-- v1, then v2, of each pair, as codes
+unfoldable pub codesOf : List Pair → List ℕ
+codesOf [] = []
+codesOf (pair ∷ pairs) = codeOf (pair .v1) ∷ codeOf (pair .v2) ∷ codesOf pairs
+
+-- ---- the same over the windows of a judged bar, as the code's helper has it
+unfoldable pub pairsOf : Thresholds → ℕ → ℕ → List Bar → List Bar → List Pair
+pairsOf t len p w gate = map (λ k. judgeOf k t len p w gate) (numbers recognisers 0)

@@ -76,11 +76,6 @@ pub fn recognise(k: u32, di: u32, t: Thresholds, prices: &[f64]) -> Answer
     let len = measures::count(prices);
     match plain_verdict(k, di, t, prices.len() % 4 == 0, len) {
         Verdict::Denied(why) => Answer::Refused(why),
-        Verdict::Accepted => {
-            let p = measures::up_to(len, di as usize);
-            let w = measures::last_bars(prices, di as usize, counts::REACH_BARS);
-            let gate = measures::last_bars(prices, counts::GATE_END, counts::QUARTER_BARS);
-            Answer::Labels(table::judge(k, t, len, p, w, gate))
-        }
+        Verdict::Accepted => { Answer::Labels(table::pair_at(k, t, len, prices, di as usize)) }
     }
 }

@@ -3,8 +3,10 @@ ghost use mathlib.Core.Path.{_≡_};
 ghost use mathlib.Core.Bool.{cond};
 ghost use lib.Dec.{ltb};
 ghost use Rattle.measures.specs.Bar.{barsOf};
-ghost use Rattle.recognisers.specs.Table.{judgeOf};
+ghost use Rattle.recognisers.specs.Table.{judgeOf, pairAt, pairsAt, pairsOf};
 use crate::bar_rules;
+use crate::counts::GATE_END;
+use crate::counts::QUARTER_BARS;
 use crate::counts::REACH_BARS;
 use crate::growing_rules;
 use crate::label::Pair;
@@ -12,6 +14,8 @@ use crate::label::pair_a;
 use crate::label::pair_b;
 use crate::label::pick_pair;
 use crate::quarter_rules;
+use crate::quarter_rules::quarter_extremes;
+use crate::quarter_rules::quarter_in;
 use crate::quarter_rules::quarter_of;
 use crate::thresholds::Thresholds;
 use measures::back;
@@ -87,10 +91,71 @@ pub fn judge(k: u32, t: Thresholds, len: usize, p: usize, w: &[f64], gate: &[f64
             p,
             21,
             pair_b(),
-            quarter_rules::fan_ji_xian(quarter_rules::quarter_extremes(w), b3, b2, b1),
+            quarter_rules::fan_ji_xian(quarter_extremes(w), b3, b2, b1),
         ),
         16 => row(p, 7, pair_b(), bar_rules::gap_yin_yang(b1, b2, b3)),
         17 => row(p, 5, pair_a(), growing_rules::ta_xing(w)),
         _ => pair_a(),
     }
+}
+
+// The pair of recogniser k at an offset of the lent bars, which are the newest of a history of len bars.
+pub fn pair_at(k: u32, t: Thresholds, len: usize, prices: &[f64], di: usize) -> Pair
+    ensures { λ r. ⌜ r ≡ pairAt k t len (barsOf (now (prices .entry))) di ⌝ }
+{
+    let p = measures::up_to(len, di);
+    let w = measures::last_bars(prices, di, REACH_BARS);
+    let gate = measures::last_bars(prices, GATE_END, QUARTER_BARS);
+    judge(k, t, len, p, w, gate)
+}
+
+// Every recogniser over the same windows. What several rules read is read once: the newest bars and the extremes of the quarter.
+fn pairs(t: Thresholds, len: usize, p: usize, w: &[f64], gate: &[f64]) -> [Pair; 18]
+    ensures { λ r. ⌜ r ≡ pairsOf t len p (barsOf (now (w .entry))) (barsOf (now (gate .entry))) ⌝ }
+{
+    let b1 = back(w, 1);
+    let b2 = back(w, 2);
+    let b3 = back(w, 3);
+    let b4 = back(w, 4);
+    let b5 = back(w, 5);
+    let b6 = back(w, 6);
+    let e = quarter_extremes(w);
+    let q = quarter_in(p >= REACH_BARS, e, b1);
+    let a = pair_a();
+    let b = pair_b();
+    [
+        row(p, 1, a, quarter_rules::san_xing_xian(t.th0, q, b1)),
+        row(p, 2, a, quarter_rules::ten_mo(q, b1, b2)),
+        row(p, 12, b, bar_rules::wu_yun_gai_ding(t.z2, t.th2, w, b1, b2)),
+        row(p, 16, b, bar_rules::ci_tou(t.z3, t.th3, b1, b2)),
+        row(p, 5, a, growing_rules::san_fa_v20221118(w)),
+        row(
+            p,
+            6,
+            a,
+            bar_rules::san_fa_v20221115(t.zdf5, b1, b2, b3, b4, b5, b6),
+        ),
+        row(p, 3, b, bar_rules::xing_xian(t.th6, b1, b2, b3)),
+        row(p, 2, a, quarter_rules::fen_shou_xian(t.zdf7, q, b1, b2)),
+        row(p, 1, a, quarter_rules::zhu_huo_xian(t.th8, t.zf8, q, b1)),
+        row(p, 2, b, bar_rules::yun_xian(b1, b2)),
+        row(p, 2, b, bar_rules::ping_tou(t.th10, b1, b2)),
+        row(p, 3, b, bar_rules::two_crow(b1, b2, b3)),
+        row(p, 3, a, bar_rules::three_crow(len, gate, b1, b2, b3)),
+        row(p, 11, a, bar_rules::szx(t.th13, b1, b2)),
+        row(p, 8, b, bar_rules::san_szx(t.th14, b1, b2, b3, b4, b5)),
+        row(p, 21, b, quarter_rules::fan_ji_xian(e, b3, b2, b1)),
+        row(p, 7, b, bar_rules::gap_yin_yang(b1, b2, b3)),
+        row(p, 5, a, growing_rules::ta_xing(w)),
+    ]
+}
+
+// The pairs of every recogniser at the newest of the lent bars, which are the newest of a history of len bars.
+pub fn newest_pairs(t: Thresholds, len: usize, prices: &[f64]) -> [Pair; 18]
+    ensures { λ r. ⌜ r ≡ pairsAt t len (barsOf (now (prices .entry))) 1 ⌝ }
+{
+    let p = measures::up_to(len, 1);
+    let w = measures::last_bars(prices, 1, REACH_BARS);
+    let gate = measures::last_bars(prices, GATE_END, QUARTER_BARS);
+    pairs(t, len, p, w, gate)
 }

@@ -5,7 +5,7 @@ use inputs::hostile;
 use inputs::known::Known;
 use inputs::rng::Rng;
 use inputs::{Case, list};
-use jcc_types::{BAR_BYTES, Bar, LABELS, NAMES, REFUSED, Thresholds};
+use jcc_types::{Answer, BAR_BYTES, Bar, NAMES, REFUSED, Thresholds};
 use oracle::Oracle;
 use oracle::corner::Corner;
 use std::fmt::Write;
@@ -215,21 +215,12 @@ impl Judge {
             println!(
                 "{}: the repository gives {}, {}",
                 known.name,
-                answer(repository),
+                Answer(repository),
                 if seen { "as printed" } else { "not as printed" },
             );
         }
         Ok(())
     }
-}
-
-/// Text of an answer: a pair or a refusal.
-pub fn answer(number: u32) -> String {
-    if number > REFUSED {
-        return format!("refusal {}", number - REFUSED);
-    }
-    let text = |code: u32| LABELS.get(code as usize).copied().unwrap_or("?");
-    format!("{}/{}", text(number / 256), text(number % 256))
 }
 
 /// The call in words and as lines of a list, with which it can be replayed.
@@ -238,7 +229,7 @@ fn difference(k: u32, offset: u32, case: &Case, answers: &[(&str, u32)]) -> Diff
     let name = NAMES.get(k as usize).copied().unwrap_or("none");
     writeln!(text, "recogniser {k} ({name}), offset {offset}").expect("text grows");
     for (who, number) in answers {
-        writeln!(text, "{who}: {number} ({})", answer(*number)).expect("text grows");
+        writeln!(text, "{who}: {number} ({})", Answer(*number)).expect("text grows");
     }
     writeln!(text, "{:?}", case.thresholds).expect("text grows");
     for bar in &case.bars {

@@ -1,8 +1,7 @@
 //! Replays a list of answers, as `compare/vectors` writes it, with the export: the files `stdin` and
 //! `stdout` of a folder.
 
-use crate::judge::answer;
-use jcc_types::{BAR_BYTES, Thresholds};
+use jcc_types::{Answer, BAR_BYTES, Thresholds};
 use std::fs;
 use std::path::Path;
 
@@ -28,7 +27,7 @@ pub fn run(folder: &Path) -> Result<(), String> {
         let Some(ours) = result else { continue };
         let wanted = expected.next().ok_or("fewer answers than calls")?;
         if ours.to_string() != wanted {
-            let ours = format!("{ours} ({})", answer(ours));
+            let ours = format!("{ours} ({})", Answer(ours));
             return Err(format!("line {}: {ours} instead of {wanted}", i + 1));
         }
         count += 1;

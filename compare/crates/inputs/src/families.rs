@@ -50,6 +50,17 @@ pub const FAMILIES: [Family; 9] = [
 /// The place of the family of long histories.
 pub const LONG: usize = 2;
 
+/// The families whose histories, one after the other, make the history of a box.
+pub const PIECES: [Family; 7] = [
+    family("walks", walks, 15),
+    family("small", small, 15),
+    family("planted", planted, 30),
+    family("boundaries", boundaries, 10),
+    with_nan(family("hostile", hostile, 15)),
+    family("thresholds", thresholds, 10),
+    with_nan(family("corners", corners, 5)),
+];
+
 /// Lengths at and around those at which a rule begins, the quarter, 12's gate and a box's 64.
 const LIMITS: [usize; 27] = [
     0, 1, 2, 3, 4, 5, 6, 7, 8, 9, 10, 11, 12, 13, 15, 16, 17, 20, 21, 22, 23, 24, 25, 63, 64, 65,
@@ -210,6 +221,14 @@ const REALS: [f64; 20] = [
 
 fn thresholds(rng: &mut Rng, case: &mut Case) {
     any(rng, case);
+    case.thresholds = random_thresholds(rng);
+    if rng.one_in(2) {
+        boundaries::fit_threshold(rng, case);
+    }
+}
+
+/// Thresholds within their limits, many at them.
+pub fn random_thresholds(rng: &mut Rng) -> Thresholds {
     let mut real = || {
         if rng.one_in(4) {
             rng.real(0.0, 10.0)
@@ -225,8 +244,5 @@ fn thresholds(rng: &mut Rng, case: &mut Case) {
             rng.pick(&WHOLES)
         }
     });
-    case.thresholds = Thresholds::from_parts(reals, wholes);
-    if rng.one_in(2) {
-        boundaries::fit_threshold(rng, case);
-    }
+    Thresholds::from_parts(reals, wholes)
 }

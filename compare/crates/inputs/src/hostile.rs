@@ -52,6 +52,14 @@ pub fn signalling(rng: &mut Rng) -> u64 {
     rng.pick(&SIGNALLING)
 }
 
+/// Any NaN pattern, quiet or signalling.
+pub fn nan(rng: &mut Rng) -> u64 {
+    let quiet = rng.one_in(2);
+    let sign = rng.word() & (1 << 63);
+    let payload = (rng.word() >> 13) | 1;
+    sign | 0x7FF0_0000_0000_0000 | u64::from(quiet) << 51 | payload
+}
+
 /// One of the prices, counted through all bars, four to a bar.
 pub fn price_at(bars: &mut [Bar], place: usize) -> &mut f64 {
     let bar = &mut bars[place / 4];

@@ -2,11 +2,14 @@
 //! from a seed, so that a run can be repeated.
 
 pub mod boundaries;
+pub mod cuts;
 pub mod families;
 pub mod grids;
+pub mod histories;
 pub mod hostile;
 pub mod known;
 pub mod list;
+pub mod looks;
 pub mod pairs;
 pub mod planted;
 pub mod refusals;

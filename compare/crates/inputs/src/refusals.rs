@@ -1,13 +1,25 @@
 //! Calls that are refused, alone and in combination, so that the order of refusals is tried too;
 //! and their neighbours that are not.
 
-use jcc_types::{BAR_BYTES, MAX_BARS, Thresholds};
+use jcc_types::{BAR_BYTES, BAR_PRICES, MAX_BARS, MOST_OFFSET, ROW_BYTES, Thresholds};
 
 /// Recognisers: the first and last, and those above.
 pub const RECOGNISERS: [u32; 6] = [0, 17, 18, 19, 1 << 31, u32::MAX];
 
 /// Offsets: the refused one, and others.
 pub const OFFSETS: [u32; 4] = [0, 1, 22, u32::MAX];
+
+/// Offsets of looks: the refused ones, their neighbours, and others.
+pub const LOOK_OFFSETS: [u32; 8] = [
+    0,
+    1,
+    22,
+    MOST_OFFSET,
+    MOST_OFFSET + 1,
+    MOST_OFFSET + 2,
+    1 << 31,
+    u32::MAX,
+];
 
 /// Byte lengths: whole bars and not, up to and above the most bars.
 pub fn byte_lengths() -> Vec<usize> {
@@ -16,6 +28,27 @@ pub fn byte_lengths() -> Vec<usize> {
     lengths.extend([64 * BAR_BYTES, 64 * BAR_BYTES + 8, 64 * BAR_BYTES + 31]);
     lengths.extend([most - BAR_BYTES, most - 1, most, most + 1, most + 31]);
     lengths.extend([most + BAR_BYTES, most + BAR_BYTES + 1]);
+    lengths
+}
+
+/// How many prices a feed may have: whole bars and not, up to and above the most bars.
+pub fn price_counts() -> Vec<usize> {
+    let most = MAX_BARS * BAR_PRICES;
+    let mut counts: Vec<usize> = (0..=2 * BAR_PRICES + 1).collect();
+    counts.extend(64 * BAR_PRICES..=65 * BAR_PRICES);
+    counts.extend(most - 1..=most + BAR_PRICES + 1);
+    counts
+}
+
+/// Bytes of a sheet for so many bars: too short, just long enough, and longer.
+pub fn sheet_lengths(bars: usize) -> Vec<usize> {
+    let enough = bars * ROW_BYTES;
+    let mut lengths = vec![
+        0,
+        enough.saturating_sub(ROW_BYTES),
+        enough.saturating_sub(1),
+    ];
+    lengths.extend([enough, enough + 1, enough + ROW_BYTES]);
     lengths
 }
 

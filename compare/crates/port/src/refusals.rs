@@ -1,8 +1,9 @@
-//! Why a plain call is refused: 01's refusals 1 to 5, in their order.
+//! Why a call is refused: 01's list, each kind of call with the refusals that concern it, in their
+//! order.
 
-use jcc_types::{BAR_BYTES, MAX_BARS, RECOGNISERS, Thresholds};
+use jcc_types::{BAR_BYTES, BAR_PRICES, MAX_BARS, MOST_OFFSET, RECOGNISERS, ROW_BYTES, Thresholds};
 
-/// The number of the first refusal that applies to a call with this many bytes of bars.
+/// The number of the first refusal that applies to a plain call with this many bytes of bars.
 pub fn refusal(recogniser: u32, offset: u32, t: &Thresholds, bytes: usize) -> Option<u32> {
     if recogniser as usize >= RECOGNISERS {
         Some(1)
@@ -19,8 +20,38 @@ pub fn refusal(recogniser: u32, offset: u32, t: &Thresholds, bytes: usize) -> Op
     }
 }
 
+/// The first that applies to a feed of this many prices, with a sheet of this many bytes, to a box
+/// that was fed some bars before.
+pub fn feed_refusal(t: &Thresholds, fed: usize, prices: usize, sheet: usize) -> Option<u32> {
+    let bars = prices / BAR_PRICES;
+    if !within_limits(t) {
+        Some(3)
+    } else if !prices.is_multiple_of(BAR_PRICES) {
+        Some(4)
+    } else if fed + bars > MAX_BARS {
+        Some(5)
+    } else if sheet / ROW_BYTES < bars {
+        Some(6)
+    } else {
+        None
+    }
+}
+
+/// The first that applies to a look at a box that `PlainBox::new` made: refusals 3 and 5 never do.
+pub fn look_refusal(recogniser: u32, offset: u32) -> Option<u32> {
+    if recogniser as usize >= RECOGNISERS {
+        Some(1)
+    } else if offset == 0 {
+        Some(2)
+    } else if offset > MOST_OFFSET {
+        Some(7)
+    } else {
+        None
+    }
+}
+
 /// NaN is outside, −0.0 inside.
-fn within_limits(t: &Thresholds) -> bool {
+pub fn within_limits(t: &Thresholds) -> bool {
     t.reals().iter().all(|x| (0.0..=10_000.0).contains(x))
         && t.wholes().iter().all(|n| *n <= 1_000_000)
 }

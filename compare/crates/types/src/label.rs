@@ -100,4 +100,9 @@ impl Pair {
     pub const fn number(self) -> u32 {
         self.0 as u32 * 256 + self.1 as u32
     }
+
+    /// The sheet's form of a pair.
+    pub const fn codes(self) -> [u8; 2] {
+        [self.0 as u8, self.1 as u8]
+    }
 }

@@ -2,8 +2,10 @@
 //! answer. Document 01 fixes all of it.
 #![no_std]
 
+mod answer;
 mod label;
 
+pub use answer::Answer;
 pub use label::{LABELS, Label, Pair, code_of};
 
 /// How many recognisers there are; a recogniser's number is below this.
@@ -14,6 +16,18 @@ pub const MAX_BARS: usize = 1_000_000;
 
 /// The bytes of one bar in the export's form.
 pub const BAR_BYTES: usize = 32;
+
+/// The prices of one bar in a feed.
+pub const BAR_PRICES: usize = 4;
+
+/// The bytes of one bar's row in a sheet: v1 and v2 of each recogniser.
+pub const ROW_BYTES: usize = 2 * RECOGNISERS;
+
+/// The newest bars that a box keeps.
+pub const KEPT: usize = 64;
+
+/// The greatest offset of a look: 22 of the kept bars are up to the judged one.
+pub const MOST_OFFSET: u32 = 43;
 
 /// An answer above this is a refusal: the difference is the refusal's number.
 pub const REFUSED: u32 = 65_536;

@@ -1,7 +1,6 @@
 -- A refusal is the answer alone; otherwise the judged pair is that of the history. Assumes nothing.
 use mathlib.Core.Path.{_∙_, sym}
 use borrow.Author.Needs.{needs}
-use Rattle.recognisers.specs.Table.{pairAt}
 use Rattle.recognisers.specs.Refusal.{recogniseOf, plainAnswer}
 use Rattle.recognisers.proofs.call.recognise.Statement.{statement}
 use Rattle.recognisers.proofs.call.recognise.Tie as tie
@@ -14,12 +13,12 @@ returns c =
     simp denied
 
 returns-2 : tie.Need-returns-2
-unfolding recogniseOf plainAnswer pairAt
+unfolding recogniseOf plainAnswer
 returns-2 c =
-    let told = c .before .before .before .before in
+    let told = c .before in
     let call = told .before .before in
     let accepted = simp (call .before .count .ensures) at (sym (call .plain-verdict .ensures) ∙ told .enum-told .given .1) in
-    simp (accepted, c .judge .ensures, c .before .last-bars2 .ensures, c .before .before .last-bars .ensures, c .before .before .before .up-to .ensures, call .before .count .ensures)
+    simp (accepted, c .pair-at .ensures, call .before .count .ensures)
 
 pub recognise-spec : {M : Type 1} → statement M
 recognise-spec =
@@ -29,9 +28,6 @@ recognise-spec =
     (λ c κs. tt)
     (λ c. search needs)
     (λ c. search needs)
-    (λ c κs. tt)
-    (λ c κs. tt)
-    (λ c κs. tt)
     (λ c κs. tt)
     returns
     returns-2)

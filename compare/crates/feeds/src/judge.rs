@@ -1,0 +1,293 @@
+//! What a box must say, and whether the exports and the plain box say it.
+//!
+//! The rows are the repository's answers at offset 1 over the history up to each bar, a look is its
+//! answer over the whole history; in 01's corners the plain port answers instead.
+
+use crate::sheet::{Sheet, pair_at};
+use crate::tally::Tally;
+use crate::text;
+use crate::trial::Trial;
+use inputs::looks::Look;
+use inputs::rng::Rng;
+use inputs::{cuts, hostile, looks};
+use jcc_types::{Bar, RECOGNISERS, REFUSED, ROW_BYTES, Thresholds};
+use oracle::Oracle;
+use oracle::corner::Corner;
+use port::PlainBox;
+
+/// A difference, with all that is needed to see it again.
+pub struct Difference(pub String);
+
+/// Bytes of a sheet past the rows: none, or less or more than a row.
+const SPARE: [usize; 6] = [0, 0, 1, ROW_BYTES - 1, ROW_BYTES, 100];
+
+/// The recogniser whose answer to a look may be another than the printed one: its gate reads bars
+/// that are newer than the judged one.
+const THREE_CROW: usize = 12;
+
+/// How often a history with NaN is fed with other NaN patterns.
+const PATTERNS: usize = 2;
+
+pub struct Judge {
+    oracle: Oracle,
+    pub tally: Tally,
+}
+
+impl Judge {
+    pub fn new() -> Judge {
+        Judge {
+            oracle: Oracle::new(),
+            tally: Tally::new(),
+        }
+    }
+
+    /// A history in many cuts, and some looks at it. After an error the trial is the one that was
+    /// wrong.
+    pub fn try_history(&mut self, trial: &mut Trial, rng: &mut Rng) -> Result<(), String> {
+        let count = trial.bars.len();
+        let rows = self.rows(trial)?;
+        for sizes in cuts::all(rng, count) {
+            trial.sizes = sizes;
+            trial.spare = rng.pick(&SPARE);
+            check_feed(&rows, trial)?;
+            self.tally.rows += count as u64;
+        }
+        self.try_patterns(&rows, trial, rng)?;
+        let plain = check_plain_box(&rows, trial)?;
+        for _ in 0..look_count(count) {
+            trial.sizes = cuts::random(rng, count);
+            let look = looks::random(rng, count);
+            self.try_look(&rows, &plain, trial, look)?;
+        }
+        Ok(())
+    }
+
+    /// Every recogniser at every offset.
+    pub fn try_all_looks(&mut self, trial: &mut Trial, rng: &mut Rng) -> Result<(), String> {
+        let rows = self.rows(trial)?;
+        let plain = check_plain_box(&rows, trial)?;
+        for look in looks::all() {
+            trial.sizes = cuts::random(rng, trial.bars.len());
+            self.try_look(&rows, &plain, trial, look)?;
+        }
+        Ok(())
+    }
+
+    /// A history so long that the repository judges only some of its rows: the plain box judges all.
+    pub fn try_long(&mut self, trial: &mut Trial, looks: &[Look]) -> Result<(), String> {
+        let mut sheet = Sheet::new(trial.sheet_len());
+        let plain = feed_plain_box(trial, sheet.bytes())?;
+        let rows = &sheet.bytes()[..trial.bars.len() * ROW_BYTES];
+        self.judge_some_rows(rows, trial)?;
+        check_feed(rows, trial)?;
+        self.tally.rows += trial.bars.len() as u64;
+        for look in looks {
+            self.try_look(rows, &plain, trial, *look)?;
+        }
+        Ok(())
+    }
+
+    /// No label depends on which NaN it is, quiet or signalling.
+    fn try_patterns(
+        &mut self,
+        rows: &[u8],
+        trial: &mut Trial,
+        rng: &mut Rng,
+    ) -> Result<(), String> {
+        if !trial.has_nan() {
+            return Ok(());
+        }
+        for _ in 0..PATTERNS {
+            trial.nan = Some(hostile::nan(rng));
+            check_feed(rows, trial)?;
+            self.tally.patterns += trial.bars.len() as u64;
+        }
+        trial.nan = None;
+        Ok(())
+    }
+
+    fn try_look(
+        &mut self,
+        rows: &[u8],
+        plain: &PlainBox,
+        trial: &mut Trial,
+        look: Look,
+    ) -> Result<(), String> {
+        trial.look = Some(look);
+        self.check_look(rows, plain, trial, look)?;
+        self.tally.looks += 1;
+        Ok(())
+    }
+
+    /// The first of the simplest trials that are wrong, as far as it gets simpler.
+    pub fn simplest(&mut self, trial: Trial, wrong: String) -> Difference {
+        let mut found = (trial, wrong);
+        while let Some(simpler) = self.simpler(&found.0) {
+            found = simpler;
+        }
+        let (trial, wrong) = found;
+        Difference(format!("{wrong}\n{trial}"))
+    }
+
+    fn simpler(&mut self, trial: &Trial) -> Option<(Trial, String)> {
+        let mut wrong = |trial: Trial| self.check(&trial).err().map(|wrong| (trial, wrong));
+        trial.simpler().into_iter().find_map(&mut wrong)
+    }
+
+    /// A trial alone.
+    fn check(&mut self, trial: &Trial) -> Result<(), String> {
+        let rows = self.rows(trial)?;
+        let plain = check_plain_box(&rows, trial)?;
+        check_feed(&rows, trial)?;
+        match trial.look {
+            Some(look) => self.check_look(&rows, &plain, trial, look),
+            None => Ok(()),
+        }
+    }
+
+    /// The rows that a sheet must have. The repository then holds the whole history, for looks.
+    fn rows(&mut self, trial: &Trial) -> Result<Vec<u8>, String> {
+        let mut rows = Vec::with_capacity(trial.bars.len() * ROW_BYTES);
+        self.start(trial);
+        for (i, bar) in trial.bars.iter().enumerate() {
+            self.oracle.push(bar);
+            for k in 0..RECOGNISERS {
+                let number = self.pair(k, 1, &trial.thresholds, &trial.bars[..=i])?;
+                self.tally.see(k, number);
+                rows.extend((number as u16).to_be_bytes());
+            }
+        }
+        self.tally.judged += trial.bars.len() as u64;
+        Ok(rows)
+    }
+
+    /// Judges every so-and-so-many-th row, and the newest.
+    fn judge_some_rows(&mut self, rows: &[u8], trial: &Trial) -> Result<(), String> {
+        const STEP: usize = 101;
+        const NEWEST: usize = 200;
+        let count = trial.bars.len();
+        self.start(trial);
+        for (i, bar) in trial.bars.iter().enumerate() {
+            self.oracle.push(bar);
+            if i % STEP != 0 && i + NEWEST < count {
+                continue;
+            }
+            for k in 0..RECOGNISERS {
+                let number = self.pair(k, 1, &trial.thresholds, &trial.bars[..=i])?;
+                if pair_at(rows, i, k) != number {
+                    let wrong = text::pair(k as u32, number, pair_at(rows, i, k));
+                    return Err(format!("plain box, row {}, {wrong}", i + 1));
+                }
+            }
+            self.tally.judged += 1;
+        }
+        Ok(())
+    }
+
+    fn start(&mut self, trial: &Trial) {
+        self.oracle.set_history(&[]);
+        self.oracle.set_thresholds(&trial.thresholds);
+    }
+
+    /// The pair over the bars that the repository holds.
+    fn pair(&mut self, k: usize, offset: u32, t: &Thresholds, bars: &[Bar]) -> Result<u32, String> {
+        let plain = port::label(k, offset, t, bars).number();
+        let repository = self.oracle.label(k, offset);
+        let differ = plain != repository;
+        match Corner::of(k, offset, bars) {
+            Some(corner) => self.tally.count_corner(corner, differ),
+            None if differ => {
+                let wrong = text::pair(k as u32, repository, plain);
+                return Err(format!("plain port, bar {}, {wrong}", bars.len()));
+            }
+            None => {}
+        }
+        Ok(plain)
+    }
+
+    fn check_look(
+        &mut self,
+        rows: &[u8],
+        plain: &PlainBox,
+        trial: &Trial,
+        look: Look,
+    ) -> Result<(), String> {
+        let Look { recogniser, offset } = look;
+        let expected = match port::look_refusal(recogniser, offset) {
+            Some(refusal) => REFUSED + refusal,
+            None => self.looked(rows, trial, look)?,
+        };
+        let mut sheet = Sheet::new(trial.sheet_len());
+        let ours = feeds_export::look(
+            recogniser,
+            offset,
+            &trial.thresholds,
+            &trial.sizes,
+            &trial.prices(),
+            sheet.bytes(),
+        );
+        let plain = number(plain.look(recogniser, offset));
+        for (who, got) in [("jcc_look", ours), ("look at the plain box", plain)] {
+            if got != expected {
+                return Err(format!("{who}, {}", text::pair(recogniser, expected, got)));
+            }
+        }
+        sheet
+            .check(rows)
+            .map_err(|wrong| format!("jcc_look, {wrong}"))
+    }
+
+    /// The pair that a look must give. All recognisers but one give what was printed.
+    fn looked(&mut self, rows: &[u8], trial: &Trial, look: Look) -> Result<u32, String> {
+        let k = look.recogniser as usize;
+        let expected = self.pair(k, look.offset, &trial.thresholds, &trial.bars)?;
+        if let Some(row) = trial.bars.len().checked_sub(look.offset as usize) {
+            let printed = pair_at(rows, row, k);
+            if k != THREE_CROW && printed != expected {
+                let wrong = text::pair(look.recogniser, printed, expected);
+                return Err(format!("the repository over the whole history, {wrong}"));
+            }
+            self.tally.see_look(printed != expected);
+        }
+        Ok(expected)
+    }
+}
+
+/// More looks at short histories: a look feeds all bars again.
+fn look_count(bars: usize) -> usize {
+    (2000 / bars.max(1)).clamp(20, 100)
+}
+
+/// The export's form of a look's outcome.
+fn number(outcome: Result<jcc_types::Pair, u32>) -> u32 {
+    match outcome {
+        Ok(pair) => pair.number(),
+        Err(refusal) => REFUSED + refusal,
+    }
+}
+
+fn check_feed(rows: &[u8], trial: &Trial) -> Result<(), String> {
+    let mut sheet = Sheet::new(trial.sheet_len());
+    let t = &trial.thresholds;
+    match feeds_export::feed(t, &trial.sizes, &trial.prices(), sheet.bytes()) {
+        0 => sheet
+            .check(rows)
+            .map_err(|wrong| format!("jcc_feed, {wrong}")),
+        refusal => Err(format!("jcc_feed: refusal {refusal} instead of none")),
+    }
+}
+
+/// The plain box after its feeds, if its rows are right.
+fn check_plain_box(rows: &[u8], trial: &Trial) -> Result<PlainBox, String> {
+    let mut sheet = Sheet::new(trial.sheet_len());
+    let plain = feed_plain_box(trial, sheet.bytes())?;
+    sheet
+        .check(rows)
+        .map_err(|wrong| format!("plain box, {wrong}"))?;
+    Ok(plain)
+}
+
+fn feed_plain_box(trial: &Trial, sheet: &mut [u8]) -> Result<PlainBox, String> {
+    port::feed_in_parts(&trial.thresholds, &trial.sizes, &trial.prices(), sheet)
+        .map_err(|refusal| format!("plain box: refusal {refusal} instead of none"))
+}

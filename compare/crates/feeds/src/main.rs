@@ -1,0 +1,46 @@
+//! Compares the exports `jcc_feed` and `jcc_look` with the repository's own functions, and both with
+//! the plain box. Stops at the first difference outside 01's two corners.
+
+mod judge;
+mod options;
+mod refused;
+mod sheet;
+mod tally;
+mod text;
+mod trial;
+mod work;
+
+use judge::{Difference, Judge};
+use options::Options;
+use std::process::ExitCode;
+use std::time::Instant;
+use tally::Tally;
+use work::Work;
+
+fn main() -> ExitCode {
+    match Options::from_arguments().and_then(|options| compare(&options)) {
+        Ok(()) => ExitCode::SUCCESS,
+        Err(message) => {
+            eprintln!("feeds: {message}");
+            ExitCode::FAILURE
+        }
+    }
+}
+
+fn compare(options: &Options) -> Result<(), String> {
+    println!("seed {}, {} histories", options.seed, options.histories);
+    let start = Instant::now();
+    let (judges, difference) = parts::run(&work::all(options), Judge::new, Work::run);
+    if let Some(Difference(text)) = difference {
+        return Err(format!("DIFFERENCE\n{text}"));
+    }
+    let mut tally = Tally::new();
+    judges.iter().for_each(|judge| tally.add(&judge.tally));
+    tally.print();
+    println!("{:.0} seconds", start.elapsed().as_secs_f64());
+    println!(
+        "feeds: {} rows, {} looks, 0 differences",
+        tally.rows, tally.looks
+    );
+    Ok(())
+}

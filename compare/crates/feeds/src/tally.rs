@@ -1,0 +1,130 @@
+//! What was compared.
+
+use inputs::families::PIECES;
+use inputs::pairs::possible;
+use jcc_types::{LABELS, RECOGNISERS};
+use oracle::corner::Corner;
+
+pub struct Tally {
+    /// Random histories by family, and their bars.
+    pub histories: [[u64; 2]; PIECES.len()],
+    /// Rows that the repository judged.
+    pub judged: u64,
+    /// Rows of the export compared with them: each as often as its history was cut.
+    pub rows: u64,
+    /// Rows of histories handed over with other NaN patterns.
+    pub patterns: u64,
+    pub looks: u64,
+    /// Looks within the history, and those of them with another pair than the printed one.
+    looked: [u64; 2],
+    /// Calls that may be refused.
+    pub refusals: u64,
+    /// Pairs in each corner, and how many of them the repository answers otherwise than 01.
+    corners: [[u64; 2]; Corner::ALL.len()],
+    /// The pairs seen in rows, by recogniser, at v1 × 38 + v2.
+    seen: Vec<Vec<bool>>,
+}
+
+impl Tally {
+    pub fn new() -> Tally {
+        Tally {
+            histories: [[0; 2]; PIECES.len()],
+            judged: 0,
+            rows: 0,
+            patterns: 0,
+            looks: 0,
+            looked: [0; 2],
+            refusals: 0,
+            corners: [[0; 2]; Corner::ALL.len()],
+            seen: vec![vec![false; LABELS.len() * LABELS.len()]; RECOGNISERS],
+        }
+    }
+
+    pub fn count_history(&mut self, family: usize, bars: usize) {
+        add(&mut self.histories[family], &[1, bars as u64]);
+    }
+
+    pub fn count_corner(&mut self, corner: Corner, differs: bool) {
+        add(&mut self.corners[corner as usize], &[1, differs.into()]);
+    }
+
+    pub fn see(&mut self, k: usize, pair: u32) {
+        self.seen[k][place(pair)] = true;
+    }
+
+    pub fn see_look(&mut self, other: bool) {
+        add(&mut self.looked, &[1, other.into()]);
+    }
+
+    pub fn add(&mut self, more: &Tally) {
+        for (sum, n) in [
+            (&mut self.judged, more.judged),
+            (&mut self.rows, more.rows),
+            (&mut self.patterns, more.patterns),
+            (&mut self.looks, more.looks),
+            (&mut self.refusals, more.refusals),
+        ] {
+            *sum += n;
+        }
+        add(&mut self.looked, &more.looked);
+        let histories = self.histories.as_flattened_mut();
+        add(histories, more.histories.as_flattened());
+        add(self.corners.as_flattened_mut(), more.corners.as_flattened());
+        for (mine, more) in self.seen.iter_mut().zip(&more.seen) {
+            mine.iter_mut().zip(more).for_each(|(a, b)| *a |= b);
+        }
+    }
+
+    pub fn print(&self) {
+        println!("\n{:12}{:>11}{:>11}", "", "histories", "bars");
+        for (family, [histories, bars]) in PIECES.iter().zip(self.histories) {
+            println!("{:12}{histories:>11}{bars:>11}", family.name);
+        }
+        let pairs = RECOGNISERS as u64;
+        let [seen, possible] = self.coverage();
+        println!(
+            "\nJudged by the repository: {} rows, {} pairs; {seen} of {possible} possible pairs seen",
+            self.judged,
+            self.judged * pairs,
+        );
+        println!(
+            "Compared in all cuts: {} rows, {} pairs; with other NaN patterns: {} rows",
+            self.rows,
+            self.rows * pairs,
+            self.patterns,
+        );
+        let [within, other] = self.looked;
+        println!(
+            "Looks: {}; {within} within the history, {other} with another pair than the printed one",
+            self.looks,
+        );
+        println!("Calls that may be refused: {}", self.refusals);
+        for (corner, [pairs, differ]) in Corner::ALL.iter().zip(self.corners) {
+            println!("Corner {corner:?}: {pairs} pairs, the repository differs in {differ}");
+        }
+    }
+
+    /// Pairs seen among those that the recognisers can give.
+    fn coverage(&self) -> [usize; 2] {
+        let seen = |k: usize| {
+            possible(k)
+                .iter()
+                .filter(|p| self.seen[k][place(p.number())])
+                .count()
+        };
+        [
+            (0..RECOGNISERS).map(seen).sum(),
+            (0..RECOGNISERS).map(|k| possible(k).len()).sum(),
+        ]
+    }
+}
+
+fn add(sums: &mut [u64], more: &[u64]) {
+    for (sum, n) in sums.iter_mut().zip(more) {
+        *sum += n;
+    }
+}
+
+fn place(pair: u32) -> usize {
+    (pair / 256) as usize * LABELS.len() + (pair % 256) as usize
+}

@@ -1,0 +1,41 @@
+//! Texts of a report.
+
+use jcc_types::{Answer, Bar, NAMES, Thresholds};
+use std::fmt::Write;
+
+/// What a recogniser should give and what it gave.
+pub fn pair(recogniser: u32, expected: u32, got: u32) -> String {
+    let name = NAMES.get(recogniser as usize).copied().unwrap_or("none");
+    format!(
+        "recogniser {recogniser} ({name}): {got} ({}) instead of {expected} ({})",
+        Answer(got),
+        Answer(expected),
+    )
+}
+
+/// The sizes of feeds, equal ones together.
+pub fn sizes(sizes: &[u32]) -> String {
+    let mut text = String::from("feeds of ");
+    for run in sizes.chunk_by(|a, b| a == b) {
+        match run {
+            [size] => write!(text, "{size}, "),
+            [size, ..] => write!(text, "{size} ({} times), ", run.len()),
+            [] => Ok(()),
+        }
+        .expect("text grows");
+    }
+    text + "then what is left"
+}
+
+/// The thresholds in 01's order; the bits of the two that are no whole numbers.
+pub fn thresholds(t: &Thresholds) -> String {
+    let [th0, th8] = t.reals().map(f64::to_bits);
+    format!("{t:?}, bits of th0 {th0:016x}, of th8 {th8:016x}")
+}
+
+/// Open, close, high and low in decimal and as bits.
+pub fn bar(bar: &Bar) -> String {
+    let [open, close, high, low] = bar.prices();
+    let [a, b, c, d] = bar.prices().map(f64::to_bits);
+    format!("{open:?}/{close:?}/{high:?}/{low:?}  {a:016x} {b:016x} {c:016x} {d:016x}")
+}

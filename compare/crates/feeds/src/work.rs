@@ -1,0 +1,136 @@
+//! The parts of a run. Each is small, so that the threads end together.
+
+use crate::judge::{Difference, Judge};
+use crate::options::Options;
+use crate::refused;
+use crate::trial::Trial;
+use inputs::families::PIECES;
+use inputs::histories::{self, LENGTHS};
+use inputs::looks::Look;
+use inputs::rng::Rng;
+use inputs::walk::Walk;
+use inputs::{Case, known};
+use jcc_types::{Bar, MAX_BARS, MOST_OFFSET};
+
+/// The histories in a part.
+const PART: u64 = 20;
+
+/// Streams of random numbers, beside those of the families.
+const LOOKS: u64 = PIECES.len() as u64;
+const LONG: u64 = LOOKS + 1;
+
+pub enum Work {
+    /// 01's small histories and the others with printed answers.
+    Known,
+    Refusals,
+    /// As many bars as there may be.
+    MostBars,
+    /// Every look at a history of each length at which something changes.
+    AllLooks {
+        length: usize,
+        seed: u64,
+    },
+    /// Some histories of a family in many cuts, and looks.
+    Random {
+        family: usize,
+        part: u64,
+        count: u64,
+        seed: u64,
+    },
+}
+
+/// All parts of a run, those that are always the same first.
+pub fn all(options: &Options) -> Vec<Work> {
+    let seed = options.seed;
+    let mut parts = vec![Work::Known, Work::Refusals, Work::MostBars];
+    parts.extend(LENGTHS.map(|length| Work::AllLooks { length, seed }));
+    for (family, f) in PIECES.iter().enumerate() {
+        let count = (options.histories * f.percent).div_ceil(100);
+        parts.extend((0..count.div_ceil(PART)).map(|part| Work::Random {
+            family,
+            part,
+            count: PART.min(count - part * PART),
+            seed,
+        }));
+    }
+    parts
+}
+
+impl Work {
+    pub fn run(&self, judge: &mut Judge) -> Result<(), Difference> {
+        match *self {
+            Work::Known => known_histories(judge),
+            Work::Refusals => refused::all(&mut judge.tally, &walk(MAX_BARS + 1)),
+            Work::MostBars => most_bars(judge),
+            Work::AllLooks { length, seed } => all_looks(judge, length, seed),
+            Work::Random {
+                family,
+                part,
+                count,
+                seed,
+            } => {
+                let mut rng = Rng::stream(seed, family as u64, part);
+                (0..count).try_for_each(|_| random_history(judge, family, &mut rng))
+            }
+        }
+    }
+}
+
+fn random_history(judge: &mut Judge, family: usize, rng: &mut Rng) -> Result<(), Difference> {
+    let mut case = Case::new();
+    histories::random(rng, &PIECES[family], &mut case);
+    let mut trial = Trial::of(&case);
+    let outcome = judge.try_history(&mut trial, rng);
+    outcome.map_err(|wrong| judge.simplest(trial, wrong))?;
+    judge.tally.count_history(family, case.bars.len());
+    Ok(())
+}
+
+fn all_looks(judge: &mut Judge, length: usize, seed: u64) -> Result<(), Difference> {
+    let mut rng = Rng::stream(seed, LOOKS, length as u64);
+    let mut case = Case::new();
+    for family in &PIECES {
+        histories::of_length(&mut rng, family, length, &mut case);
+        let mut trial = Trial::of(&case);
+        let outcome = judge.try_all_looks(&mut trial, &mut rng);
+        outcome.map_err(|wrong| judge.simplest(trial, wrong))?;
+    }
+    Ok(())
+}
+
+fn known_histories(judge: &mut Judge) -> Result<(), Difference> {
+    let mut rng = Rng::stream(0, 0, 0);
+    for known in known::all() {
+        let mut case = Case::new();
+        case.bars = known.bars;
+        case.thresholds = known.thresholds;
+        let mut trial = Trial::of(&case);
+        let outcome = judge.try_history(&mut trial, &mut rng);
+        outcome.map_err(|wrong| judge.simplest(trial, wrong))?;
+    }
+    Ok(())
+}
+
+fn walk(count: usize) -> Vec<Bar> {
+    let mut rng = Rng::stream(0, LONG, 0);
+    let mut walk = Walk::market();
+    (0..count).map(|_| walk.bar(&mut rng)).collect()
+}
+
+/// Not made simpler: the newest bars and the count must do.
+fn most_bars(judge: &mut Judge) -> Result<(), Difference> {
+    let mut rng = Rng::stream(0, LONG, 1);
+    let mut case = Case::new();
+    case.bars = walk(MAX_BARS);
+    let mut trial = Trial::of(&case);
+    trial.sizes = (0..300).map(|_| rng.between(0, 5000) as u32).collect();
+    let looks = [(12, 1), (12, MOST_OFFSET), (17, MOST_OFFSET), (18, 1)];
+    let looks = looks.map(|(recogniser, offset)| Look { recogniser, offset });
+    let outcome = judge.try_long(&mut trial, &looks);
+    outcome.map_err(|wrong| {
+        trial.bars.drain(..MAX_BARS - 64);
+        Difference(format!(
+            "{wrong}\nin {MAX_BARS} bars of a walk, of which the newest are:\n{trial}"
+        ))
+    })
+}

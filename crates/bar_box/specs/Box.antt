@@ -1,0 +1,88 @@
+-- "A feed reaches the box", "A look": the box, its making, a feed and a look, for every box that a caller can hand in.
+use Prim.Native.Nat.{ℕ, _+_, _/_, _%_}
+use mathlib.Core.List.{List, [], _∷_, _++_}
+use lib.Dec.{eqb}
+use lib.ListN.{length, take, drop, replicate}
+use lib.Ieee.{Float}
+use Rattle.measures.specs.declared.bars.Bar.{Bar}
+use Rattle.measures.specs.Price.{zero}
+use Rattle.measures.specs.Bar.{barOf, barsOf}
+use Rattle.measures.specs.Window.{newest}
+use Rattle.recognisers.specs.declared.thresholds.Thresholds.{Thresholds}
+use Rattle.recognisers.specs.declared.call.Verdict.{Verdict}
+use Rattle.recognisers.specs.declared.call.Verdict.the-variants.{Accepted, Denied}
+use Rattle.recognisers.specs.declared.call.Answer.{Answer}
+use Rattle.recognisers.specs.declared.call.Answer.the-variants.{Labels}
+use Rattle.recognisers.specs.Number.{places}
+use Rattle.recognisers.specs.Threshold.{standardSet}
+use Rattle.recognisers.specs.Table.{pairAt}
+use Rattle.recognisers.specs.Refusal.{unknownRecogniser, zeroOffset, badThreshold, brokenBars, tooManyBars, shortSheet, farLook, firstTrue, answerTo}
+use Rattle.bar_box.specs.declared.boxes.BarBox.{BarBox}
+use Rattle.bar_box.specs.declared.boxes.Outcome.{Outcome}
+use Rattle.bar_box.specs.Sheet.{rowsOf, overlay}
+
+-- ---- the box
+
+-- the bars that the box keeps: the newest 64 of the N fed, or all if fewer, oldest first from the first place
+abbrev pub kept : BarBox → List Bar
+kept b = take (b .count) (b .bars)
+
+-- the places after a history: its newest 64 bars, then what the places past them held
+abbrev pub laid : List Bar → List Bar → List Bar
+laid old history = newest places history ++ drop (length history) old
+
+-- the box after it took bars in
+abbrev pub takenIn : BarBox → List Bar → BarBox
+takenIn b bars = record { thresholds = b .thresholds; count = b .count + length bars; bars = laid (b .bars) (kept b ++ bars) }
+
+-- empty places hold zeros
+abbrev pub zeroBar : Bar
+zeroBar = barOf zero zero zero zero
+
+unfoldable pub emptyPlaces : List Bar
+emptyPlaces = replicate places zeroBar
+
+-- a fresh box has no bars and its thresholds
+abbrev pub freshBox : Thresholds → BarBox
+freshBox t = record { thresholds = t; count = 0; bars = emptyPlaces }
+
+-- ---- the calls
+
+-- a call's verdict with the box after it
+abbrev pub outcome : Verdict → BarBox → Outcome
+outcome v b = record { verdict = v; bar_box = b }
+
+-- box-making tries 3; a refused one gives a fresh box with the standard set
+abbrev pub madeBy : Verdict → Thresholds → BarBox
+madeBy Accepted t = freshBox t
+madeBy (Denied r) t = freshBox standardSet
+
+unfoldable pub madeOf : Thresholds → Outcome
+madeOf t = let v = firstTrue (badThreshold t ∷ []) in outcome v (madeBy v t)
+
+-- a feed tries 3 to 6, with the thresholds and the count N of the box, and the numbers of prices and of sheet bytes that it is lent
+unfoldable pub feedVerdict : Thresholds → ℕ → ℕ → ℕ → Verdict
+feedVerdict t n prices sheet =
+    firstTrue (badThreshold t ∷ brokenBars (eqb (prices % 4) 0) ∷ tooManyBars (n + prices / 4) ∷ shortSheet sheet (prices / 4) ∷ [])
+
+-- what a call that may be refused leaves: a refusal leaves what was there
+abbrev pub leaves : {A : Type 0} → Verdict → A → A → A
+leaves Accepted before after = after
+leaves (Denied r) before after = before
+
+-- the box takes the bars in; a refusal leaves it as it was
+unfoldable pub fedOf : BarBox → List Float → ℕ → Outcome
+fedOf b prices sheet = let v = feedVerdict (b .thresholds) (b .count) (length prices) sheet in outcome v (leaves v b (takenIn b (barsOf prices)))
+
+-- the sheet has a row for each bar, from its first byte on; bytes past these stay, and a refusal leaves all
+unfoldable pub sheetOf : BarBox → List Float → List ℕ → List ℕ
+sheetOf b prices sheet =
+    leaves (feedVerdict (b .thresholds) (b .count) (length prices) (length sheet)) sheet (overlay sheet 0 (rowsOf (b .thresholds) (b .count) (kept b) (barsOf prices)))
+
+-- a look tries 1, 2, 3, 5 and 7
+unfoldable pub lookVerdict : ℕ → ℕ → Thresholds → ℕ → Verdict
+lookVerdict k di t n = firstTrue (unknownRecogniser k ∷ zeroOffset di ∷ badThreshold t ∷ tooManyBars n ∷ farLook di ∷ [])
+
+-- the pair over the kept bars, with N for len, so that p = N − di + 1
+unfoldable pub lookOf : BarBox → ℕ → ℕ → Answer
+lookOf b k di = answerTo (lookVerdict k di (b .thresholds) (b .count)) (Labels (pairAt k (b .thresholds) (b .count) (kept b) di))

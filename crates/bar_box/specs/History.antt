@@ -1,0 +1,130 @@
+-- "What a list of feeds leaves": demand 3. The first part builds the plain history from what the feeds were lent; the second follows the
+-- calls; the third says how the two agree.
+use Prim.Native.Nat.{ℕ, _+_, _-_, _*_, _≤_, _<_}
+use mathlib.Core.Path.{_≡_}
+use mathlib.Core.Bool.{true, cond}
+use mathlib.Core.List.{List, [], _∷_, _++_}
+use lib.ListN.{length, take, drop, replicate}
+use lib.Ieee.{Float}
+use Rattle.measures.specs.declared.bars.Bar.{Bar}
+use Rattle.measures.specs.Bar.{barsOf}
+use Rattle.measures.specs.Window.{newest}
+use Rattle.recognisers.specs.declared.thresholds.Thresholds.{Thresholds}
+use Rattle.recognisers.specs.declared.call.Verdict.{Verdict}
+use Rattle.recognisers.specs.declared.call.Verdict.the-variants.{Accepted}
+use Rattle.recognisers.specs.declared.call.Answer.the-variants.{Labels}
+use Rattle.recognisers.specs.Number.{recognisers, rowBytes, gated, places, farthestLook}
+use Rattle.recognisers.specs.Threshold.{standardSet, validOf}
+use Rattle.recognisers.specs.Table.{pairAt, codesOf}
+use Rattle.recognisers.specs.Refusal.{codesIn}
+use Rattle.bar_box.specs.declared.boxes.BarBox.{BarBox}
+use Rattle.bar_box.specs.declared.boxes.Outcome.{Outcome}
+use Rattle.bar_box.specs.Box.{zeroBar, madeOf, feedVerdict, leaves, fedOf, sheetOf, lookOf}
+
+-- what a feed is lent
+pub record Feed : Type 0 where
+  pub prices : List Float
+  pub sheet : List ℕ
+
+-- ---- the history, a plain list of bars
+
+-- a feed is refused exactly as the list of refusals says, with the history's count for N and the fresh box's thresholds
+abbrev pub verdictOn : Thresholds → List Bar → Feed → Verdict
+verdictOn t history f = feedVerdict t (length history) (length (f .prices)) (length (f .sheet))
+
+-- it then leaves the history as it is; any other feed appends its bars in their order
+abbrev pub appended : Thresholds → List Bar → Feed → List Bar
+appended t history f = leaves (verdictOn t history f) history (history ++ barsOf (f .prices))
+
+-- the history after the feeds; from the empty one it is the joined history
+unfoldable pub historyAfter : Thresholds → List Bar → List Feed → List Bar
+historyAfter t history [] = history
+historyAfter t history (f ∷ fs) = historyAfter t (appended t history f) fs
+
+unfoldable pub verdictsOn : Thresholds → List Bar → List Feed → List Verdict
+verdictsOn t history [] = []
+verdictsOn t history (f ∷ fs) = verdictOn t history f ∷ verdictsOn t (appended t history f) fs
+
+-- ---- the calls, as the contract of a feed has them
+
+abbrev pub fed : BarBox → Feed → Outcome
+fed b f = fedOf b (f .prices) (length (f .sheet))
+
+-- the first feed is handed the fresh box, each later one the box that the feed before it left, refused or not
+unfoldable pub boxAfter : BarBox → List Feed → BarBox
+boxAfter b [] = b
+boxAfter b (f ∷ fs) = boxAfter (fed b f .bar_box) fs
+
+unfoldable pub verdictsOf : BarBox → List Feed → List Verdict
+verdictsOf b [] = []
+verdictsOf b (f ∷ fs) = fed b f .verdict ∷ verdictsOf (fed b f .bar_box) fs
+
+-- the sheet rows of a feed: the bytes that it wrote for its bars, as its sheet stands when the feed returns; a refused feed gives none
+abbrev pub rowsIn : BarBox → Feed → List ℕ
+rowsIn b f = leaves (fed b f .verdict) [] (take (rowBytes * length (barsOf (f .prices))) (sheetOf b (f .prices) (f .sheet)))
+
+-- the joined sheet rows are all of them, in the order of the history
+unfoldable pub joinedRows : BarBox → List Feed → List ℕ
+joinedRows b [] = []
+joinedRows b (f ∷ fs) = rowsIn b f ++ joinedRows (fed b f .bar_box) fs
+
+-- the prices of bars, as a feed is lent them; and one feed of a whole history
+unfoldable pub pricesOf : List Bar → List Float
+pricesOf [] = []
+pricesOf (b ∷ bars) = b .«open» ∷ b .close ∷ b .high ∷ b .low ∷ pricesOf bars
+
+abbrev pub oneFeed : List Bar → List ℕ → Feed
+oneFeed history sheet = record { prices = pricesOf history; sheet = sheet }
+
+-- the two bytes of recogniser k in the i-th of joined rows, from 0
+abbrev pub printed : List ℕ → ℕ → ℕ → List ℕ
+printed rows i k = take 2 (drop (rowBytes * i + 2 * k) rows)
+
+-- ---- what holds after a list of feeds fs to a box b without bars; h is the joined history, and sheet one that is long enough for it
+
+pub record Holds (b : BarBox) (fs : List Feed) (h : List Bar) (sheet : List ℕ) : Type 0 where
+  -- (a) each feed is refused exactly as the history says
+  pub refusals : verdictsOf b fs ≡ verdictsOn (b .thresholds) [] fs
+  -- (b) rows and final box equal those of one feed of the joined history: byte for byte, and as whole records. That feed is accepted unless
+  -- the thresholds are outside their limits, where every feed is refused and no bar is there
+  pub same-rows : joinedRows b fs ≡ rowsIn b (oneFeed h sheet)
+  pub same-box : boxAfter b fs ≡ fed b (oneFeed h sheet) .bar_box
+  pub accepted : validOf (b .thresholds) ≡ true → fed b (oneFeed h sheet) .verdict ≡ Accepted
+  -- (c) one row for each bar; each has the pairs that the rules give at offset 1 over the history up to that bar, 12's len being the number
+  -- of bars up to it
+  pub row-count : length (joinedRows b fs) ≡ rowBytes * length h
+  pub pairs : (i k : ℕ) → i < length h → k < recognisers → printed (joinedRows b fs) i k ≡ codesOf (pairAt k (b .thresholds) (i + 1) (take (i + 1) h) 1 ∷ [])
+  -- (d) the final box has the fresh box's thresholds; its N is the history's count; its places hold the history's newest 64 bars, and what
+  -- they held where there are fewer
+  pub final-box : boxAfter b fs ≡ record { thresholds = b .thresholds; count = length h; bars = newest places h ++ drop (length h) (b .bars) }
+  -- (e) a look at an offset from 1 to 43 within the history gives the printed pair of the bar that it judges, for every recogniser but 12
+  pub look-printed : (di k : ℕ) → 1 ≤ di → di ≤ farthestLook → di ≤ length h → k < recognisers → (k ≡ gated → ⊥)
+      → codesIn (lookOf (boxAfter b fs) k di) ≡ printed (joinedRows b fs) (length h - di) k
+  -- (f) it gives, for 12 as for all, the pair of the rule at that offset over the whole history, with the history's count for len
+  pub look-whole : (di k : ℕ) → 1 ≤ di → di ≤ farthestLook → di ≤ length h → k < recognisers
+      → lookOf (boxAfter b fs) k di ≡ Labels (pairAt k (b .thresholds) (length h) h di)
+
+-- a box without bars, as made or as a caller filled it: N is 0, whatever its thresholds and its 64 places hold
+pub record NoBars (b : BarBox) : Type 0 where
+  pub none : b .count ≡ 0
+  pub all-places : length (b .bars) ≡ places
+
+-- what making gives: a box without bars, with the thresholds asked for or, if these are refused, the standard set, so that they are always
+-- inside their limits, and zeros in all places
+pub record Fresh (t : Thresholds) (b : BarBox) : Type 0 where
+  pub no-bars : NoBars b
+  pub thresholds : b .thresholds ≡ cond (validOf t) t standardSet
+  pub valid : validOf (b .thresholds) ≡ true
+  pub zeros : b .bars ≡ replicate places zeroBar
+
+-- after the feeds the places that no bar took still hold zeros
+abbrev pub ZerosLeft : BarBox → List Feed → List Bar → Type 0
+ZerosLeft b fs h = boxAfter b fs .bars ≡ newest places h ++ replicate (places - length h) zeroBar
+
+-- for every list of feeds: over every box without bars, and over the box made with any thresholds
+pub record Demand3 : Type 0 where
+  pub holds : (b : BarBox) → NoBars b → (fs : List Feed) (sheet : List ℕ)
+      → let h = historyAfter (b .thresholds) [] fs in rowBytes * length h ≤ length sheet → Holds b fs h sheet
+  pub fresh : (t : Thresholds) → Fresh t (madeOf t .bar_box)
+  pub zeros-left : (t : Thresholds) (fs : List Feed)
+      → let b = madeOf t .bar_box in ZerosLeft b fs (historyAfter (b .thresholds) [] fs)

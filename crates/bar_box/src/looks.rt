@@ -1,0 +1,60 @@
+// A look.
+ghost use mathlib.Core.Path.{_≡_};
+ghost use lib.ListN.{take};
+ghost use Rattle.recognisers.specs.Table.{pairAt};
+ghost use Rattle.bar_box.specs.Box.{lookVerdict, lookOf};
+use crate::boxes::BarBox;
+use crate::runs;
+use measures::Bar;
+use measures::least;
+use recognisers::Answer;
+use recognisers::Pair;
+use recognisers::Thresholds;
+use recognisers::call::Refusal;
+use recognisers::call::Verdict;
+use recognisers::counts;
+use recognisers::table;
+
+// The first of the refusals 1, 2, 3, 5 and 7 that is true of a look at a box that counts n bars.
+fn look_verdict(k: u32, di: u32, t: Thresholds, n: u32) -> Verdict
+    ensures { λ r. ⌜ r ≡ lookVerdict k di t n ⌝ }
+{
+    if counts::RECOGNISERS <= k {
+        return Verdict::Denied(Refusal::UnknownRecogniser);
+    }
+    if di == 0 {
+        return Verdict::Denied(Refusal::ZeroOffset);
+    }
+    let valid = t.is_valid();
+    if !valid {
+        return Verdict::Denied(Refusal::BadThreshold);
+    }
+    if counts::MOST_BARS < n as usize {
+        return Verdict::Denied(Refusal::TooManyBars);
+    }
+    if 43 < di {
+        return Verdict::Denied(Refusal::FarLook);
+    }
+    Verdict::Accepted
+}
+
+// The pair of a recogniser at an offset of the kept bars, with the box's count for len.
+fn pair_back(t: Thresholds, count: u32, bars: [Bar; 64], k: u32, di: u32) -> Pair
+    ensures { λ r. ⌜ r ≡ pairAt k t count (take count bars) di ⌝ }
+{
+    let kept = least(count as usize, 64);
+    let mut run = [0.0; 256];
+    runs::put_bars(bars, 0, kept, &mut run);
+    let end = 4 * kept;
+    table::pair_at(k, t, count as usize, &run[..end], di as usize)
+}
+
+// The pair of a recogniser at an offset from the newest bar; the box stays.
+pub fn look(b: BarBox, k: u32, di: u32) -> Answer
+    ensures { λ r. ⌜ r ≡ lookOf b k di ⌝ }
+{
+    match look_verdict(k, di, b.thresholds, b.count) {
+        Verdict::Denied(why) => Answer::Refused(why),
+        Verdict::Accepted => Answer::Labels(pair_back(b.thresholds, b.count, b.bars, k, di)),
+    }
+}

@@ -1,0 +1,25 @@
+-- The code is the definition.
+use Rattle.recognisers.specs.Table.{pairsAt, pairsOf, pairAt}
+use borrow.Author.Needs.{needs}
+use Rattle.recognisers.proofs.table.newest_pairs.Statement.{statement}
+use Rattle.recognisers.proofs.table.newest_pairs.Tie as tie
+
+returns : tie.Need-returns
+unfolding pairsAt pairsOf pairAt
+returns c =
+    simp (
+      c .pairs .ensures,
+      c .before .last-bars2 .ensures,
+      c .before .before .last-bars .ensures,
+      c .before .before .before .up-to .ensures,
+    )
+
+pub newest-pairs-spec : {M : Type 1} → statement M
+newest-pairs-spec =
+    tie.close
+    (tie.spec
+    (λ c κs. tt)
+    (λ c κs. tt)
+    (λ c κs. tt)
+    (λ c κs. tt)
+    returns)
