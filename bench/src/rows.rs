@@ -1,38 +1,112 @@
-//! What is measured: a name and a closure that labels the whole walk and gives a digest of the
-//! labels. Later rows, such as feeds of a box, are one more entry.
+//! What is measured: a name and a closure that labels the first bars of the walk and writes the
+//! labels into a sheet, 36 bytes a bar.
 
-use jcc_types::{BAR_BYTES, Bar, RECOGNISERS, Thresholds};
+use jcc_types::{BAR_BYTES, BAR_PRICES, Bar, KEPT, RECOGNISERS, ROW_BYTES, Thresholds};
 use oracle::Oracle;
 use std::hint::black_box;
 
+/// The bars of the rows that label by plain calls: the repository's functions are slow.
+pub const CALLS: usize = 100_000;
+
+/// The bars of the rows that feed a box: as many as there may be, and few.
+pub const FEEDS: usize = 1_000_000;
+pub const FEW: usize = 10_000;
+
 pub struct Row<'a> {
     pub name: &'static str,
-    pub run: Box<dyn FnMut() -> u64 + 'a>,
+    /// The bars that one pass labels.
+    pub bars: usize,
+    /// The passes that are timed together: several where one is too short.
+    pub passes: usize,
+    /// Whether it is the plain port to which the rows below it are compared.
+    pub is_port: bool,
+    pub run: Run<'a>,
 }
 
-/// The newest bars that a caller without the whole history keeps.
-const KEPT: usize = 64;
+/// Labels the bars and writes their rows.
+type Run<'a> = Box<dyn FnMut(&mut [u8]) + 'a>;
 
-pub fn all(bars: &[Bar]) -> Vec<Row<'_>> {
-    let bytes: Vec<u8> = bars.iter().flat_map(|b| b.to_bytes()).collect();
-    let whole = bytes.clone();
+fn row<'a>(name: &'static str, bars: usize, run: impl FnMut(&mut [u8]) + 'a) -> Row<'a> {
+    Row {
+        name,
+        bars,
+        passes: 1,
+        is_port: false,
+        run: Box::new(run),
+    }
+}
+
+fn port_row<'a>(name: &'static str, bars: usize, run: impl FnMut(&mut [u8]) + 'a) -> Row<'a> {
+    Row {
+        is_port: true,
+        ..row(name, bars, run)
+    }
+}
+
+/// The walk in the forms that the rows take it in.
+pub struct Walked {
+    bars: Vec<Bar>,
+    bytes: Vec<u8>,
+    prices: Vec<f64>,
+}
+
+impl Walked {
+    pub fn new(bars: Vec<Bar>) -> Walked {
+        Walked {
+            bytes: bars[..CALLS].iter().flat_map(|b| b.to_bytes()).collect(),
+            prices: bars.iter().flat_map(Bar::prices).collect(),
+            bars,
+        }
+    }
+
+    fn prices(&self, bars: usize) -> &[f64] {
+        &self.prices[..bars * BAR_PRICES]
+    }
+}
+
+pub fn all(walked: &Walked) -> Vec<Row<'_>> {
+    let mut rows = calls(walked);
+    rows.extend(feeds(walked));
+    rows
+}
+
+fn calls(walked: &Walked) -> Vec<Row<'_>> {
+    let bars = &walked.bars[..CALLS];
+    let bytes = &walked.bytes;
     vec![
+        row("the repository's functions", CALLS, |s| repository(bars, s)),
+        port_row("plain port", CALLS, |s| plain_port(bars, s)),
+        row("jcc_label, the newest 64 bars", CALLS, |s| {
+            exported(bytes, KEPT, s);
+        }),
+        row("jcc_label, the whole history", CALLS, |s| {
+            exported(bytes, usize::MAX, s);
+        }),
+    ]
+}
+
+fn feeds(walked: &Walked) -> Vec<Row<'_>> {
+    let prices = walked.prices(FEEDS);
+    let few = walked.prices(FEW);
+    vec![
+        port_row("plain box, feeds of 4,096 bars", FEEDS, |s| {
+            plain_box(4096, prices, s);
+        }),
+        row("jcc_feed, feeds of 4,096 bars", FEEDS, |s| {
+            fed(4096, prices, s);
+        }),
         Row {
-            name: "the repository's functions",
-            run: Box::new(|| repository(bars)),
+            passes: FEEDS / FEW,
+            ..row("the same for 10,000 bars", FEW, |s| fed(4096, few, s))
         },
-        Row {
-            name: "plain port",
-            run: Box::new(|| plain_port(bars)),
-        },
-        Row {
-            name: "jcc_label, the newest 64 bars",
-            run: Box::new(move || exported(&bytes, KEPT)),
-        },
-        Row {
-            name: "jcc_label, the whole history",
-            run: Box::new(move || exported(&whole, usize::MAX)),
-        },
+        port_row("plain box, feeds of 64 bars", FEEDS, |s| {
+            plain_box(64, prices, s);
+        }),
+        row("jcc_feed, feeds of 64 bars", FEEDS, |s| fed(64, prices, s)),
+        port_row("plain box, feeds of 1 bar", FEEDS, |s| {
+            plain_box(1, prices, s);
+        }),
+        row("jcc_feed, feeds of 1 bar", FEEDS, |s| fed(1, prices, s)),
     ]
 }
 
@@ -41,54 +115,57 @@ fn thresholds() -> Thresholds {
     black_box(Thresholds::STANDARD)
 }
 
-/// The bars arrive one by one; each is judged as the newest.
-fn repository(bars: &[Bar]) -> u64 {
-    let mut oracle = Oracle::new();
-    oracle.set_thresholds(&thresholds());
-    let mut digest = Digest::new();
-    for bar in bars {
-        oracle.push(bar);
-        for k in 0..RECOGNISERS {
-            digest.add(oracle.label(k, 1));
-        }
+/// Writes a bar's row, each pair as v1 × 256 + v2.
+fn write(row: &mut [u8; ROW_BYTES], mut pair: impl FnMut(usize) -> u32) {
+    for k in 0..RECOGNISERS {
+        let [v1, v2] = (pair(k) as u16).to_be_bytes();
+        row[2 * k] = v1;
+        row[2 * k + 1] = v2;
     }
-    digest.0
 }
 
-fn plain_port(bars: &[Bar]) -> u64 {
-    let t = thresholds();
-    let mut digest = Digest::new();
-    for count in 1..=bars.len() {
-        for k in 0..RECOGNISERS {
-            digest.add(port::label(k, 1, &t, &bars[..count]).number());
-        }
+fn rows_of(sheet: &mut [u8]) -> impl Iterator<Item = &mut [u8; ROW_BYTES]> {
+    sheet.as_chunks_mut().0.iter_mut()
+}
+
+/// The bars arrive one by one; each is judged as the newest.
+fn repository(bars: &[Bar], sheet: &mut [u8]) {
+    let mut oracle = Oracle::new();
+    oracle.set_thresholds(&thresholds());
+    for (bar, row) in bars.iter().zip(rows_of(sheet)) {
+        oracle.push(bar);
+        write(row, |k| oracle.label(k, 1));
     }
-    digest.0
+}
+
+fn plain_port(bars: &[Bar], sheet: &mut [u8]) {
+    let t = thresholds();
+    for (count, row) in (1..=bars.len()).zip(rows_of(sheet)) {
+        write(row, |k| port::label(k, 1, &t, &bars[..count]).number());
+    }
 }
 
 /// Hands the export at most this many newest bars.
-fn exported(bytes: &[u8], most: usize) -> u64 {
+fn exported(bytes: &[u8], most: usize, sheet: &mut [u8]) {
     let t = thresholds();
-    let mut digest = Digest::new();
-    for count in 1..=bytes.len() / BAR_BYTES {
+    for (count, row) in (1..=bytes.len() / BAR_BYTES).zip(rows_of(sheet)) {
         let from = count.saturating_sub(most);
         let history = &bytes[from * BAR_BYTES..count * BAR_BYTES];
-        for k in 0..RECOGNISERS as u32 {
-            digest.add(export::label(k, 1, &t, history));
-        }
+        write(row, |k| export::label(k as u32, 1, &t, history));
     }
-    digest.0
 }
 
-/// A hash over all labels in their order (FNV-1a over words).
-struct Digest(u64);
+/// Feeds of so many bars.
+fn sizes(size: usize, prices: &[f64]) -> Vec<u32> {
+    vec![size as u32; (prices.len() / BAR_PRICES).div_ceil(size)]
+}
 
-impl Digest {
-    fn new() -> Digest {
-        Digest(0xCBF2_9CE4_8422_2325)
-    }
+fn plain_box(size: usize, prices: &[f64], sheet: &mut [u8]) {
+    let fed = port::feed_in_parts(&thresholds(), &sizes(size, prices), prices, sheet);
+    assert!(fed.is_ok(), "the feeds are accepted");
+}
 
-    fn add(&mut self, label: u32) {
-        self.0 = (self.0 ^ u64::from(label)).wrapping_mul(0x0000_0100_0000_01B3);
-    }
+fn fed(size: usize, prices: &[f64], sheet: &mut [u8]) {
+    let refusal = feeds_export::feed(&thresholds(), &sizes(size, prices), prices, sheet);
+    assert_eq!(refusal, 0, "the feeds are accepted");
 }

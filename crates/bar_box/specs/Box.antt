@@ -50,7 +50,7 @@ freshBox t = record { thresholds = t; count = 0; bars = emptyPlaces }
 
 -- a call's verdict with the box after it
 abbrev pub outcome : Verdict → BarBox → Outcome
-outcome v b = record { verdict = v; bar_box = b }
+outcome v b = record { verdict = v; after = b }
 
 -- box-making tries 3; a refused one gives a fresh box with the standard set
 abbrev pub madeBy : Verdict → Thresholds → BarBox
@@ -67,8 +67,8 @@ feedVerdict t n prices sheet =
 
 -- what a call that may be refused leaves: a refusal leaves what was there
 abbrev pub leaves : {A : Type 0} → Verdict → A → A → A
-leaves Accepted before after = after
-leaves (Denied r) before after = before
+leaves Accepted was now = now
+leaves (Denied r) was now = was
 
 -- the box takes the bars in; a refusal leaves it as it was
 unfoldable pub fedOf : BarBox → List Float → ℕ → Outcome

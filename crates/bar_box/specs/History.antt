@@ -53,11 +53,11 @@ fed b f = fedOf b (f .prices) (length (f .sheet))
 -- the first feed is handed the fresh box, each later one the box that the feed before it left, refused or not
 unfoldable pub boxAfter : BarBox → List Feed → BarBox
 boxAfter b [] = b
-boxAfter b (f ∷ fs) = boxAfter (fed b f .bar_box) fs
+boxAfter b (f ∷ fs) = boxAfter (fed b f .after) fs
 
 unfoldable pub verdictsOf : BarBox → List Feed → List Verdict
 verdictsOf b [] = []
-verdictsOf b (f ∷ fs) = fed b f .verdict ∷ verdictsOf (fed b f .bar_box) fs
+verdictsOf b (f ∷ fs) = fed b f .verdict ∷ verdictsOf (fed b f .after) fs
 
 -- the sheet rows of a feed: the bytes that it wrote for its bars, as its sheet stands when the feed returns; a refused feed gives none
 abbrev pub rowsIn : BarBox → Feed → List ℕ
@@ -66,7 +66,7 @@ rowsIn b f = leaves (fed b f .verdict) [] (take (rowBytes * length (barsOf (f .p
 -- the joined sheet rows are all of them, in the order of the history
 unfoldable pub joinedRows : BarBox → List Feed → List ℕ
 joinedRows b [] = []
-joinedRows b (f ∷ fs) = rowsIn b f ++ joinedRows (fed b f .bar_box) fs
+joinedRows b (f ∷ fs) = rowsIn b f ++ joinedRows (fed b f .after) fs
 
 -- the prices of bars, as a feed is lent them; and one feed of a whole history
 unfoldable pub pricesOf : List Bar → List Float
@@ -88,7 +88,7 @@ pub record Holds (b : BarBox) (fs : List Feed) (h : List Bar) (sheet : List ℕ)
   -- (b) rows and final box equal those of one feed of the joined history: byte for byte, and as whole records. That feed is accepted unless
   -- the thresholds are outside their limits, where every feed is refused and no bar is there
   pub same-rows : joinedRows b fs ≡ rowsIn b (oneFeed h sheet)
-  pub same-box : boxAfter b fs ≡ fed b (oneFeed h sheet) .bar_box
+  pub same-box : boxAfter b fs ≡ fed b (oneFeed h sheet) .after
   pub accepted : validOf (b .thresholds) ≡ true → fed b (oneFeed h sheet) .verdict ≡ Accepted
   -- (c) one row for each bar; each has the pairs that the rules give at offset 1 over the history up to that bar, 12's len being the number
   -- of bars up to it
@@ -125,6 +125,6 @@ ZerosLeft b fs h = boxAfter b fs .bars ≡ newest places h ++ replicate (places 
 pub record Demand3 : Type 0 where
   pub holds : (b : BarBox) → NoBars b → (fs : List Feed) (sheet : List ℕ)
       → let h = historyAfter (b .thresholds) [] fs in rowBytes * length h ≤ length sheet → Holds b fs h sheet
-  pub fresh : (t : Thresholds) → Fresh t (madeOf t .bar_box)
+  pub fresh : (t : Thresholds) → Fresh t (madeOf t .after)
   pub zeros-left : (t : Thresholds) (fs : List Feed)
-      → let b = madeOf t .bar_box in ZerosLeft b fs (historyAfter (b .thresholds) [] fs)
+      → let b = madeOf t .after in ZerosLeft b fs (historyAfter (b .thresholds) [] fs)

@@ -16,7 +16,7 @@ pub struct BarBox {
 // Whether a call is refused, and the box after it.
 pub struct Outcome {
     pub verdict: Verdict,
-    pub bar_box: BarBox,
+    pub after: BarBox,
 }
 
 // A box without bars.
@@ -44,12 +44,12 @@ pub fn make(t: Thresholds) -> Outcome
     if valid {
         Outcome {
             verdict: Verdict::Accepted,
-            bar_box: fresh(t),
+            after: fresh(t),
         }
     } else {
         Outcome {
             verdict: Verdict::Denied(Refusal::BadThreshold),
-            bar_box: fresh(Thresholds::standard()),
+            after: fresh(Thresholds::standard()),
         }
     }
 }

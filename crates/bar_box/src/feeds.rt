@@ -4,7 +4,8 @@ ghost use mathlib.Core.List.{_++_};
 ghost use Prim.Native.Nat.{_+_, _*_, _/_, _%_, _≤_};
 ghost use lib.ListN.{length, take};
 ghost use Rattle.measures.specs.Bar.{barsOf};
-ghost use Rattle.bar_box.specs.Sheet.{rowsOf, overlay};
+ghost use Rattle.measures.specs.Window.{newest};
+ghost use Rattle.bar_box.specs.Sheet.{before, rowsOf, overlay};
 ghost use Rattle.bar_box.specs.Box.{laid, feedVerdict, fedOf, sheetOf};
 use crate::boxes::BarBox;
 use crate::boxes::Outcome;
@@ -50,20 +51,32 @@ fn lay(bars: [Bar; 64], count: u32, prices: &[f64]) -> [Bar; 64]
     runs::lay_bars(moved, stay, prices, n - new, new)
 }
 
-// Writes the rows of the lent bars. Those that a rule's window may begin before are labelled over a run of the newest kept bars and
-// themselves, the others straight over the lent prices.
-fn label(t: Thresholds, count: u32, bars: [Bar; 64], prices: &[f64], sheet: &mut [u8])
-    requires { ⌜ (length (now prices) % 4 ≡ 0) × ((count + length (now prices) / 4 ≤ 1000000) × (36 * (length (now prices) / 4) ≤ length (now sheet))) ⌝ }
-    ensures { λ _. ⌜ now (sheet .exit) ≡ overlay (now (sheet .entry)) 0 (rowsOf t count (take count bars) (barsOf (now (prices .entry)))) ⌝ }
+// The prices of the newest 21 kept bars and of the first 21 lent ones, which are all that a rule sees at those lent bars, go to the front
+// of a run; the answer is how many prices there are.
+fn join(bars: [Bar; 64], count: u32, prices: &[f64], run: &mut [f64]) -> usize
+    requires { ⌜ 168 ≤ length (now run) ⌝ }
+    ensures { λ r. ⌜ (r ≤ 168) × (barsOf (take r (now (run .exit))) ≡ newest before (take count bars) ++ take before (barsOf (now (prices .entry)))) ⌝ }
 {
     let kept = least(count as usize, 64);
     let old = least(kept, 21);
     let new = least(measures::count(prices), 21);
-    let mut seam = [0.0; 168];
-    runs::put_bars(bars, kept - old, old, &mut seam);
-    runs::put_prices(prices, 4 * new, &mut seam, 4 * old);
-    let end = 4 * (old + new);
-    sheets::label_run(t, &seam[..end], old, count as usize, sheet, 0);
+    runs::put_bars(bars, kept - old, old, run);
+    runs::put_prices(prices, 4 * new, run, 4 * old);
+    4 * old + 4 * new
+}
+
+// Writes the rows of the lent bars. Those that a rule's window may begin before are labelled over a run of the newest kept bars and
+// themselves, the others straight over the lent prices.
+fn label(t: Thresholds, count: u32, bars: [Bar; 64], prices: &[f64], sheet: &mut [u8])
+    requires { ⌜ (count + length (barsOf (now prices)) ≤ 1000000) × (36 * length (barsOf (now prices)) ≤ length (now sheet)) ⌝ }
+    ensures { λ _. ⌜ now (sheet .exit) ≡ overlay (now (sheet .entry)) 0 (rowsOf t count (take count bars) (barsOf (now (prices .entry)))) ⌝ }
+{
+    // room for 42 bars
+    let mut run = [0.0; 168];
+    let end = join(bars, count, prices, &mut run);
+    let old = least(least(count as usize, 64), 21);
+    let new = least(measures::count(prices), 21);
+    sheets::label_run(t, &run[..end], old, count as usize, sheet, 0);
     sheets::label_run(t, prices, new, count as usize + new, sheet, 36 * new);
 }
 
@@ -71,19 +84,23 @@ fn label(t: Thresholds, count: u32, bars: [Bar; 64], prices: &[f64], sheet: &mut
 pub fn feed(b: BarBox, prices: &[f64], sheet: &mut [u8]) -> Outcome
     ensures { λ r. ⌜ (r ≡ fedOf b (now (prices .entry)) (length (now (sheet .entry)))) × (now (sheet .exit) ≡ sheetOf b (now (prices .entry)) (now (sheet .entry))) ⌝ }
 {
-    match feed_verdict(b.thresholds, b.count, prices.len(), sheet.len()) {
+    let t = b.thresholds;
+    let count = b.count;
+    match feed_verdict(t, count, prices.len(), sheet.len()) {
         Verdict::Denied(why) => Outcome {
             verdict: Verdict::Denied(why),
-            bar_box: b,
+            after: b,
         },
         Verdict::Accepted => {
-            label(b.thresholds, b.count, b.bars, prices, sheet);
+            let old = b.bars;
+            label(t, count, old, prices, sheet);
+            let bars = lay(old, count, prices);
             Outcome {
                 verdict: Verdict::Accepted,
-                bar_box: BarBox {
-                    thresholds: b.thresholds,
-                    count: b.count + measures::count(prices) as u32,
-                    bars: lay(b.bars, b.count, prices),
+                after: BarBox {
+                    thresholds: t,
+                    count: count + measures::count(prices) as u32,
+                    bars,
                 },
             }
         }

@@ -55,6 +55,9 @@ pub fn look(b: BarBox, k: u32, di: u32) -> Answer
 {
     match look_verdict(k, di, b.thresholds, b.count) {
         Verdict::Denied(why) => Answer::Refused(why),
-        Verdict::Accepted => Answer::Labels(pair_back(b.thresholds, b.count, b.bars, k, di)),
+        Verdict::Accepted => {
+            let bars = b.bars;
+            Answer::Labels(pair_back(b.thresholds, b.count, bars, k, di))
+        }
     }
 }

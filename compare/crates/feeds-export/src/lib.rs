@@ -52,8 +52,8 @@ unsafe extern "C" {
 }
 
 /// Makes a box and feeds it the prices in feeds of these sizes, in bars: 0 is an empty feed, a size
-/// beyond what is left takes what is left, and what the sizes leave goes into one last feed. Gives 0,
-/// or the refusal that one feed of all the prices gets.
+/// beyond what is left takes what is left, and what the sizes leave goes into one last feed. Gives
+/// 0, or the refusal that one feed of all the prices gets.
 pub fn feed(t: &Thresholds, sizes: &[u32], prices: &[f64], sheet: &mut [u8]) -> u32 {
     // SAFETY: the function is proved to read nothing but these prices, sizes and bytes, to write
     // nothing but the bytes of the sheet, and to keep nothing; it has no precondition.

@@ -10,7 +10,7 @@ use crate::trial::Trial;
 use inputs::looks::Look;
 use inputs::rng::Rng;
 use inputs::{cuts, hostile, looks};
-use jcc_types::{Bar, RECOGNISERS, REFUSED, ROW_BYTES, Thresholds};
+use jcc_types::{Bar, Label, MOST_OFFSET, Pair, RECOGNISERS, REFUSED, ROW_BYTES, Thresholds};
 use oracle::Oracle;
 use oracle::corner::Corner;
 use port::PlainBox;
@@ -59,6 +59,9 @@ impl Judge {
             let look = looks::random(rng, count);
             self.try_look(&rows, &plain, trial, look)?;
         }
+        for look in crows(&rows, trial) {
+            self.try_look(&rows, &plain, trial, look)?;
+        }
         Ok(())
     }
 
@@ -73,7 +76,8 @@ impl Judge {
         Ok(())
     }
 
-    /// A history so long that the repository judges only some of its rows: the plain box judges all.
+    /// A history so long that the repository judges only some of its rows; the plain box judges
+    /// all.
     pub fn try_long(&mut self, trial: &mut Trial, looks: &[Look]) -> Result<(), String> {
         let mut sheet = Sheet::new(trial.sheet_len());
         let plain = feed_plain_box(trial, sheet.bytes())?;
@@ -258,8 +262,26 @@ fn look_count(bars: usize) -> usize {
     (2000 / bars.max(1)).clamp(20, 100)
 }
 
+/// The looks at which 12 found its crows when the bar was fed, or finds them now: they are few, and
+/// the only ones whose answer may have changed since.
+fn crows(rows: &[u8], trial: &Trial) -> Vec<Look> {
+    const NONE: u32 = Pair(Label::Other, Label::Other).number();
+    let count = trial.bars.len();
+    let found = |offset: u32| {
+        let now = port::label(THREE_CROW, offset, &trial.thresholds, &trial.bars);
+        let row = count - offset as usize;
+        now.number() != NONE || pair_at(rows, row, THREE_CROW) != NONE
+    };
+    let offsets = (1..=MOST_OFFSET).take_while(|offset| *offset as usize <= count);
+    let look = |offset| Look {
+        recogniser: THREE_CROW as u32,
+        offset,
+    };
+    offsets.filter(|offset| found(*offset)).map(look).collect()
+}
+
 /// The export's form of a look's outcome.
-fn number(outcome: Result<jcc_types::Pair, u32>) -> u32 {
+fn number(outcome: Result<Pair, u32>) -> u32 {
     match outcome {
         Ok(pair) => pair.number(),
         Err(refusal) => REFUSED + refusal,
@@ -290,4 +312,16 @@ fn check_plain_box(rows: &[u8], trial: &Trial) -> Result<PlainBox, String> {
 fn feed_plain_box(trial: &Trial, sheet: &mut [u8]) -> Result<PlainBox, String> {
     port::feed_in_parts(&trial.thresholds, &trial.sizes, &trial.prices(), sheet)
         .map_err(|refusal| format!("plain box: refusal {refusal} instead of none"))
+}
+
+/// The bars up to the first row in which `jcc_feed` and the plain box differ; all if there is none.
+pub fn bars_to_wrong_row(trial: &Trial) -> usize {
+    let mut ours = vec![0; trial.sheet_len()];
+    let mut plain = ours.clone();
+    let (t, sizes, prices) = (&trial.thresholds, &trial.sizes, trial.prices());
+    feeds_export::feed(t, sizes, &prices, &mut ours);
+    let _ = port::feed_in_parts(t, sizes, &prices, &mut plain);
+    let mut rows = ours.chunks(ROW_BYTES).zip(plain.chunks(ROW_BYTES));
+    let wrong = rows.position(|(a, b)| a != b);
+    wrong.map_or(trial.bars.len(), |row| trial.bars.len().min(row + 1))
 }

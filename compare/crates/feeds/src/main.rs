@@ -1,5 +1,5 @@
-//! Compares the exports `jcc_feed` and `jcc_look` with the repository's own functions, and both with
-//! the plain box. Stops at the first difference outside 01's two corners.
+//! Compares the exports `jcc_feed` and `jcc_look` with the repository's own functions, and both
+//! with the plain box. Stops at the first difference outside 01's two corners.
 
 mod judge;
 mod options;

@@ -165,7 +165,8 @@ impl Call<'_> {
     /// An answer of the call in words.
     fn name(&self, answer: u32) -> String {
         match self.look {
-            None => format!("{answer} (0: all taken, otherwise the refusal)"),
+            None if answer == 0 => "no refusal".to_string(),
+            None => format!("refusal {answer}"),
             Some(_) => format!("{answer} ({})", Answer(answer)),
         }
     }
@@ -176,7 +177,7 @@ impl Call<'_> {
             Some(look) => format!("jcc_look, {look:?}"),
         };
         format!(
-            "{call}: {wrong}\n{} prices, {}, a sheet of {} bytes\n{}",
+            "{call}: {wrong}\n{} prices in {}, a sheet of {} bytes\n{}",
             self.prices.len(),
             text::sizes(self.sizes),
             self.sheet_len,

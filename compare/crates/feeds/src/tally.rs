@@ -83,7 +83,7 @@ impl Tally {
         let pairs = RECOGNISERS as u64;
         let [seen, possible] = self.coverage();
         println!(
-            "\nJudged by the repository: {} rows, {} pairs; {seen} of {possible} possible pairs seen",
+            "\nJudged by the repository: {} rows, {} pairs; {seen} of {possible} kinds of pairs seen",
             self.judged,
             self.judged * pairs,
         );
@@ -95,7 +95,7 @@ impl Tally {
         );
         let [within, other] = self.looked;
         println!(
-            "Looks: {}; {within} within the history, {other} with another pair than the printed one",
+            "Looks: {}; {within} within the history, {other} with another pair than the row's",
             self.looks,
         );
         println!("Calls that may be refused: {}", self.refusals);

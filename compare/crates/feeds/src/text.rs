@@ -15,6 +15,9 @@ pub fn pair(recogniser: u32, expected: u32, got: u32) -> String {
 
 /// The sizes of feeds, equal ones together.
 pub fn sizes(sizes: &[u32]) -> String {
+    if sizes.is_empty() {
+        return "one feed".to_string();
+    }
     let mut text = String::from("feeds of ");
     for run in sizes.chunk_by(|a, b| a == b) {
         match run {
@@ -33,9 +36,25 @@ pub fn thresholds(t: &Thresholds) -> String {
     format!("{t:?}, bits of th0 {th0:016x}, of th8 {th8:016x}")
 }
 
-/// Open, close, high and low in decimal and as bits.
-pub fn bar(bar: &Bar) -> String {
-    let [open, close, high, low] = bar.prices();
-    let [a, b, c, d] = bar.prices().map(f64::to_bits);
-    format!("{open:?}/{close:?}/{high:?}/{low:?}  {a:016x} {b:016x} {c:016x} {d:016x}")
+/// A line for each bar, from a number on: open, close, high and low in decimal and as bits. Equal
+/// bars in a row are one line.
+pub fn bars(mut number: usize, bars: &[Bar]) -> String {
+    let mut text = String::new();
+    for run in bars.chunk_by(|a, b| a.to_bytes() == b.to_bytes()) {
+        let [open, close, high, low] = run[0].prices();
+        let [a, b, c, d] = run[0].prices().map(f64::to_bits);
+        let last = number + run.len() - 1;
+        let numbers = if run.len() == 1 {
+            number.to_string()
+        } else {
+            format!("{number} to {last}")
+        };
+        writeln!(
+            text,
+            "{numbers}: {open:?}/{close:?}/{high:?}/{low:?}  {a:016x} {b:016x} {c:016x} {d:016x}"
+        )
+        .expect("text grows");
+        number = last + 1;
+    }
+    text
 }

@@ -52,8 +52,8 @@ impl Trial {
         self.bars.len() * ROW_BYTES + self.spare
     }
 
-    /// Smaller trials, those with much less first: fewer newest or oldest bars, one bar fewer, fewer
-    /// feeds, no spare bytes, the standard set.
+    /// Simpler trials, those with much less first: fewer newest or oldest bars, one bar fewer,
+    /// fewer feeds, no spare bytes, the standard set.
     pub fn simpler(&self) -> Vec<Trial> {
         let count = self.bars.len();
         let halves = |n: usize| (0..usize::BITS).map(move |i| n >> i).take_while(|n| *n > 0);
@@ -107,7 +107,12 @@ impl Trial {
 
 impl fmt::Display for Trial {
     fn fmt(&self, f: &mut fmt::Formatter<'_>) -> fmt::Result {
-        writeln!(f, "{} bars, {}", self.bars.len(), text::sizes(&self.sizes))?;
+        writeln!(
+            f,
+            "{} bars in {}",
+            self.bars.len(),
+            text::sizes(&self.sizes)
+        )?;
         if let Some(Look { recogniser, offset }) = self.look {
             writeln!(f, "then a look: recogniser {recogniser}, offset {offset}")?;
         }
@@ -116,9 +121,6 @@ impl fmt::Display for Trial {
         }
         writeln!(f, "a sheet of {} bytes", self.sheet_len())?;
         writeln!(f, "{}", text::thresholds(&self.thresholds))?;
-        for bar in &self.bars {
-            writeln!(f, "{}", text::bar(bar))?;
-        }
-        Ok(())
+        f.write_str(&text::bars(1, &self.bars))
     }
 }

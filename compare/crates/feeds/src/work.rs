@@ -1,16 +1,16 @@
 //! The parts of a run. Each is small, so that the threads end together.
 
-use crate::judge::{Difference, Judge};
+use crate::judge::{self, Difference, Judge};
 use crate::options::Options;
-use crate::refused;
 use crate::trial::Trial;
+use crate::{refused, text};
 use inputs::families::PIECES;
 use inputs::histories::{self, LENGTHS};
 use inputs::looks::Look;
 use inputs::rng::Rng;
 use inputs::walk::Walk;
 use inputs::{Case, known};
-use jcc_types::{Bar, MAX_BARS, MOST_OFFSET};
+use jcc_types::{Bar, KEPT, MAX_BARS, MOST_OFFSET};
 
 /// The histories in a part.
 const PART: u64 = 20;
@@ -20,7 +20,7 @@ const LOOKS: u64 = PIECES.len() as u64;
 const LONG: u64 = LOOKS + 1;
 
 pub enum Work {
-    /// 01's small histories and the others with printed answers.
+    /// Histories with printed answers, and those about 12's gate.
     Known,
     Refusals,
     /// As many bars as there may be.
@@ -79,11 +79,15 @@ impl Work {
 fn random_history(judge: &mut Judge, family: usize, rng: &mut Rng) -> Result<(), Difference> {
     let mut case = Case::new();
     histories::random(rng, &PIECES[family], &mut case);
-    let mut trial = Trial::of(&case);
-    let outcome = judge.try_history(&mut trial, rng);
-    outcome.map_err(|wrong| judge.simplest(trial, wrong))?;
+    try_history(judge, &case, rng)?;
     judge.tally.count_history(family, case.bars.len());
     Ok(())
+}
+
+fn try_history(judge: &mut Judge, case: &Case, rng: &mut Rng) -> Result<(), Difference> {
+    let mut trial = Trial::of(case);
+    let outcome = judge.try_history(&mut trial, rng);
+    outcome.map_err(|wrong| judge.simplest(trial, wrong))
 }
 
 fn all_looks(judge: &mut Judge, length: usize, seed: u64) -> Result<(), Difference> {
@@ -100,15 +104,13 @@ fn all_looks(judge: &mut Judge, length: usize, seed: u64) -> Result<(), Differen
 
 fn known_histories(judge: &mut Judge) -> Result<(), Difference> {
     let mut rng = Rng::stream(0, 0, 0);
-    for known in known::all() {
-        let mut case = Case::new();
-        case.bars = known.bars;
-        case.thresholds = known.thresholds;
-        let mut trial = Trial::of(&case);
-        let outcome = judge.try_history(&mut trial, &mut rng);
-        outcome.map_err(|wrong| judge.simplest(trial, wrong))?;
-    }
-    Ok(())
+    let known = known::all().into_iter().map(|known| Case {
+        bars: known.bars,
+        thresholds: known.thresholds,
+        offsets: Vec::new(),
+    });
+    let mut cases = known.chain(histories::crows());
+    cases.try_for_each(|case| try_history(judge, &case, &mut rng))
 }
 
 fn walk(count: usize) -> Vec<Bar> {
@@ -117,7 +119,7 @@ fn walk(count: usize) -> Vec<Bar> {
     (0..count).map(|_| walk.bar(&mut rng)).collect()
 }
 
-/// Not made simpler: the newest bars and the count must do.
+/// A difference here is not made simpler.
 fn most_bars(judge: &mut Judge) -> Result<(), Difference> {
     let mut rng = Rng::stream(0, LONG, 1);
     let mut case = Case::new();
@@ -127,10 +129,16 @@ fn most_bars(judge: &mut Judge) -> Result<(), Difference> {
     let looks = [(12, 1), (12, MOST_OFFSET), (17, MOST_OFFSET), (18, 1)];
     let looks = looks.map(|(recogniser, offset)| Look { recogniser, offset });
     let outcome = judge.try_long(&mut trial, &looks);
-    outcome.map_err(|wrong| {
-        trial.bars.drain(..MAX_BARS - 64);
-        Difference(format!(
-            "{wrong}\nin {MAX_BARS} bars of a walk, of which the newest are:\n{trial}"
-        ))
-    })
+    outcome.map_err(|wrong| Difference(long_report(&wrong, &trial)))
+}
+
+/// With the bars that a box has kept when it writes the first wrong row.
+fn long_report(wrong: &str, trial: &Trial) -> String {
+    let end = judge::bars_to_wrong_row(trial);
+    let start = end.saturating_sub(KEPT);
+    format!(
+        "{wrong}\n{MAX_BARS} bars of a walk in {}; some of them:\n{}",
+        text::sizes(&trial.sizes),
+        text::bars(start + 1, &trial.bars[start..end]),
+    )
 }

@@ -4,6 +4,7 @@
 use crate::Case;
 use crate::families::{Family, random_thresholds};
 use crate::rng::Rng;
+use jcc_types::Bar;
 
 /// The most bars of a random history.
 const MOST: usize = 300;
@@ -29,8 +30,8 @@ pub fn random(rng: &mut Rng, family: &Family, case: &mut Case) {
     of_length(rng, family, count, case);
 }
 
-/// A history of so many bars: pieces of a family, the newest of them whole, since that is where most
-/// patterns stand. The thresholds are the last piece's, or others.
+/// A history of so many bars: pieces of a family, the newest of them whole, since that is where
+/// most patterns stand. The thresholds are the last piece's, or others.
 pub fn of_length(rng: &mut Rng, family: &Family, count: usize, case: &mut Case) {
     case.clear();
     let mut piece = Case::new();
@@ -45,4 +46,36 @@ pub fn of_length(rng: &mut Rng, family: &Family, count: usize, case: &mut Case) 
     } else {
         piece.thresholds
     };
+}
+
+/// Bars before and after the crows: so that the history passes 23 bars and the kept bars with them,
+/// before them or after them, and that the gate's 20 bars have them, or some, or none.
+const BEFORE: [usize; 12] = [0, 1, 10, 18, 19, 20, 21, 22, 30, 60, 61, 62];
+const AFTER: [usize; 13] = [0, 1, 2, 3, 18, 19, 20, 21, 22, 23, 41, 42, 43];
+
+/// Prices of flat bars above and below the crows: above them, they shut 12's gate.
+const LEVELS: [f64; 2] = [100.0, 1.0];
+
+/// Three crows among flat bars: whether 12 finds them depends on the history's length and on where
+/// the higher bars are.
+pub fn crows() -> Vec<Case> {
+    let crows = [
+        Bar::new(20.0, 16.0, 21.0, 15.0),
+        Bar::new(17.0, 13.0, 18.0, 12.0),
+        Bar::new(14.0, 10.0, 15.0, 9.0),
+    ];
+    let flat = |level: f64, count: usize| vec![Bar::from_prices([level; 4]); count];
+    let mut cases = Vec::new();
+    for before in BEFORE {
+        for after in AFTER {
+            for [older, newer] in [[0, 0], [0, 1], [1, 0], [1, 1]] {
+                let mut case = Case::new();
+                case.bars.extend(flat(LEVELS[older], before));
+                case.bars.extend(crows);
+                case.bars.extend(flat(LEVELS[newer], after));
+                cases.push(case);
+            }
+        }
+    }
+    cases
 }

@@ -65,8 +65,8 @@ impl PlainBox {
         }
     }
 
-    /// The kept bars stand for the whole history: of the bars up to a judged one they have all or at
-    /// least 22, and no rule asks for more; 12's gate asks whether len is above 23, and they are
+    /// The kept bars stand for the whole history: of the bars up to a judged one they have all or
+    /// at least 22, and no rule asks for more; 12's gate asks whether len is above 23, and they are
     /// above 23 exactly if N is.
     fn pair(&self, recogniser: usize, offset: u32) -> Pair {
         let kept = &self.bars[..self.fed.min(KEPT)];

@@ -1,0 +1,100 @@
+-- One feed to the box that a history left, against the same feed to the plain history: its verdict, the box after it and the rows that it
+-- gives. Assumes nothing.
+use Prim.Native.Nat.{ℕ, _+_, _*_, _/_, _%_, _≤_}
+use mathlib.Core.Path.{_≡_, refl, _∙_}
+use mathlib.Core.Bool.{Bool, true, false, cond}
+use mathlib.Core.List.{List, [], _∷_, _++_}
+use native.Mathlib.Omega.{arith}
+use native.Mathlib.Nat.{zero-add}
+use borrow.Author.Tests.{not-false, eqb-true, ltb-false, eq-eqb, le-ltb}
+use lib.ListN.{length, take, drop}
+use lib.Seq.{take-at}
+use Rattle.measures.specs.declared.bars.Bar.{Bar}
+use Rattle.measures.specs.Bar.{barsOf}
+use Rattle.measures.specs.Window.{newest}
+use Rattle.recognisers.specs.declared.thresholds.Thresholds.{Thresholds}
+use Rattle.recognisers.specs.declared.call.Verdict.{Verdict}
+use Rattle.recognisers.specs.declared.call.Verdict.the-variants.{Accepted, Denied}
+use Rattle.recognisers.specs.Number.{rowBytes, mostBars, places}
+use Rattle.recognisers.specs.Threshold.{validOf}
+use Rattle.recognisers.specs.Refusal.{Tried, firstTrue}
+use Rattle.bar_box.specs.declared.boxes.BarBox.{BarBox}
+use Rattle.bar_box.specs.Sheet.{before, rowsOf, overlay}
+use Rattle.bar_box.specs.Box.{kept, takenIn, feedVerdict, leaves, fedOf, sheetOf}
+use Rattle.bar_box.specs.History.{Feed, verdictOn, appended, fed, rowsIn, NoBars}
+use Rattle.bar_box.proofs.SheetLaws.{length-rows, rows-near}
+use Rattle.bar_box.proofs.BoxLaws.{newest-newest, kept-taken, taken-append}
+
+-- ---- what an accepted feed meets
+
+-- none of refusals 3 to 6 is true
+pub record Fits (t : Thresholds) (n prices sheet : ℕ) : Type 0 where
+  pub valid : validOf t ≡ true
+  pub whole : prices % 4 ≡ 0
+  pub few : n + prices / 4 ≤ mostBars
+  pub room : rowBytes * (prices / 4) ≤ sheet
+
+-- where no refusal is true, the first is not and none of the others is
+none-true : (x : Tried) (xs : List Tried) → firstTrue (x ∷ xs) ≡ Accepted → (x .met ≡ false) × (firstTrue xs ≡ Accepted)
+unfolding firstTrue
+none-true x xs = go (x .met) refl
+  where
+    go : (m : Bool) → x .met ≡ m → cond m (Denied (x .why)) (firstTrue xs) ≡ Accepted → (x .met ≡ false) × (firstTrue xs ≡ Accepted)
+    go true e none = (cc, cc)
+    go false e none = (e, none)
+
+-- an accepted feed meets them
+pub fits : (t : Thresholds) (n prices sheet : ℕ) → feedVerdict t n prices sheet ≡ Accepted → Fits t n prices sheet
+unfolding feedVerdict
+fits t n prices sheet none =
+    let three = none-true _ _ none in
+    let four = none-true _ _ (three .1) in
+    let five = none-true _ _ (four .1) in
+    let six = none-true _ _ (five .1) in
+    record { valid = not-false _ (three .0); whole = eqb-true _ _ (not-false _ (four .0)); few = ltb-false _ _ (five .0); room = ltb-false _ _ (six .0) }
+
+-- and one that meets them is accepted
+pub accepts : (t : Thresholds) (n prices sheet : ℕ) → Fits t n prices sheet → feedVerdict t n prices sheet ≡ Accepted
+unfolding feedVerdict firstTrue
+accepts t n prices sheet f = simp (f .valid, eq-eqb (prices % 4) 0 (f .whole), le-ltb mostBars (n + prices / 4) (f .few), le-ltb sheet (rowBytes * (prices / 4)) (f .room))
+
+-- ---- the box that a history left
+
+-- the rows out of the sheet, as the feed leaves it
+written : (v : Verdict) (sheet rows : List ℕ) (n : ℕ) → length rows ≡ n → leaves v [] (take n (leaves v sheet (overlay sheet 0 rows))) ≡ leaves v [] rows
+written Accepted sheet rows n e = take-at rows (drop (0 + length rows) sheet) n e
+written (Denied r) sheet rows n e = refl
+
+module _ (b : BarBox) (start : NoBars b) where
+  -- its N is the history's count
+  pub count-after : (h : List Bar) → takenIn b h .count ≡ length h
+  count-after h = rw (start .none, zero-add)
+
+  -- it keeps the history's newest 64 bars
+  pub kept-after : (h : List Bar) → kept (takenIn b h) ≡ newest places h
+  kept-after h = kept-taken b (start .all-places) h ∙ rw (start .none)
+
+  -- the feed is refused as the history says
+  pub verdict-step : (h : List Bar) (f : Feed) → fed (takenIn b h) f .verdict ≡ verdictOn (b .thresholds) h f
+  unfolding fedOf
+  verdict-step h f = rw (count-after h)
+
+  -- by its verdict, it leaves the box that the history after it leaves
+  box-by : (v : Verdict) (h bars : List Bar) → leaves v (takenIn b h) (takenIn (takenIn b h) bars) ≡ takenIn b (leaves v h (h ++ bars))
+  box-by Accepted h bars = taken-append b (start .all-places) h bars
+  box-by (Denied r) h bars = refl
+
+  -- the box after the feed is the one that the history after the feed leaves
+  pub box-step : (h : List Bar) (f : Feed) → fed (takenIn b h) f .after ≡ takenIn b (appended (b .thresholds) h f)
+  unfolding fedOf
+  box-step h f = box-by (fed (takenIn b h) f .verdict) h (barsOf (f .prices)) ∙ rw (count-after h)
+
+  -- the feed gives the rows of its bars over the whole history, though the box keeps 64 bars of it
+  pub rows-step : (h : List Bar) (f : Feed)
+      → rowsIn (takenIn b h) f ≡ leaves (verdictOn (b .thresholds) h f) [] (rowsOf (b .thresholds) (length h) h (barsOf (f .prices)))
+  unfolding fedOf sheetOf
+  rows-step h f =
+      let bars = barsOf (f .prices) in
+      let t = b .thresholds in
+      rw (kept-after h, count-after h, rows-near t (length h) (newest places h) h bars (newest-newest places before h (omega arith)))
+      (written (verdictOn t h f) (f .sheet) (rowsOf t (length h) h bars) (rowBytes * length bars) (length-rows t (length h) h bars))
