@@ -1,69 +1,65 @@
+-- A refusal leaves box and sheet; otherwise the rows are written and the bars taken in. Assumes nothing.
+use mathlib.Core.Path.{_≡_, _∙_, sym}
+use native.Mathlib.Omega.{arith}
 use borrow.Author.Needs.{needs}
+use lib.ListN.{length}
+use Rattle.measures.proofs.RunLaws.{length-bars}
+use Rattle.bar_box.specs.Box.{fedOf, sheetOf}
+use Rattle.bar_box.proofs.FeedSteps.{fits}
 use Rattle.bar_box.proofs.feeds.feed.Statement.{statement}
 use Rattle.bar_box.proofs.feeds.feed.Tie as tie
-use Rattle.bar_box.proofs.feeds.feed.Reads as reads
-use Rattle.bar_box.proofs.feeds.feed.Lts as lts
-use Rattle.bar_box.proofs.feeds.feed_verdict.Reads as feed-verdict-reads
-use Rattle.bar_box.proofs.feeds.label.Reads as label-reads
-use Rattle.bar_box.proofs.feeds.lay.Reads as lay-reads
-use Rattle.measures.proofs.count.Reads as count-reads
 
--- src/feeds.rt:89:11
-feed-verdict-requires : tie.Need-feed-verdict-requires
-feed-verdict-requires c κs = search needs
-
--- src/feeds.rt:90:25
-enum-known-why : tie.Need-enum-known-why
-enum-known-why c = search needs
-
--- src/feeds.rt:95:17
-enum-told : tie.Need-enum-told
-enum-told c = search needs
-
--- src/feeds.rt:96:13
 label-requires : tie.Need-label-requires
-label-requires c κs = ?
+label-requires c κs =
+    let told = c .before .before in
+    let call = told .before .before in
+    let args = call .before .before .before .before .args in
+    let f = fits _ _ _ _ (sym (call .feed-verdict .ensures) ∙ told .enum-told .given .1) in
+    omega (arith, length-bars (args .prices .now), f .few, f .room)
 
--- src/feeds.rt:97:17
-lay-requires : tie.Need-lay-requires
-lay-requires c κs = search needs
-
--- src/feeds.rt:102:36
-count-requires : tie.Need-count-requires
-count-requires c κs = search needs
-
--- src/feeds.rt:102:36
 cast-t19 : tie.Need-cast-t19
-cast-t19 c = ?
+cast-t19 c =
+    let told = c .before .before .before .before .before .before .before in
+    let call = told .before .before in
+    let args = call .before .before .before .before .args in
+    let f = fits _ _ _ _ (sym (call .feed-verdict .ensures) ∙ told .enum-told .given .1) in
+    omega (arith, c .count .ensures, length-bars (args .prices .now), f .few)
 
--- src/feeds.rt:102:28
 add-t20 : tie.Need-add-t20
-add-t20 c = ?
+add-t20 c =
+    let told = c .before .before .before .before .before .before .before in
+    let call = told .before .before in
+    let args = call .before .before .before .before .args in
+    let f = fits _ _ _ _ (sym (call .feed-verdict .ensures) ∙ told .enum-told .given .1) in
+    omega (arith, c .count .ensures, length-bars (args .prices .now), f .few)
 
--- src/feeds.rt:84:1
 returns : tie.Need-returns
-returns c = ?
+unfolding fedOf sheetOf
+returns c =
+    let call = c .before .before .before in
+    let denied = sym (call .feed-verdict .ensures) ∙ c .before .why .given .1 in
+    (simp denied, simp denied)
 
--- src/feeds.rt:84:1
-same-length : tie.Need-same-length
-same-length c = search needs
-
--- src/feeds.rt:84:1
 returns-2 : tie.Need-returns-2
-returns-2 c = ?
+unfolding fedOf sheetOf
+returns-2 c =
+    let told = c .before .before .before .before .before .before .before in
+    let call = told .before .before in
+    let accepted = sym (call .feed-verdict .ensures) ∙ told .enum-told .given .1 in
+    (simp (accepted, c .count .ensures, c .before .lay .ensures), simp (accepted, c .before .before .before .before .label .ensures))
 
 pub feed-spec : {M : Type 1} → statement M
 feed-spec =
     tie.close
     (tie.spec
-    feed-verdict-requires
-    enum-known-why
-    enum-told
+    (λ c κs. tt)
+    (λ c. search needs)
+    (λ c. search needs)
     label-requires
-    lay-requires
-    count-requires
+    (λ c κs. tt)
+    (λ c κs. tt)
     cast-t19
     add-t20
     returns
-    same-length
+    (λ c. search needs)
     returns-2)
