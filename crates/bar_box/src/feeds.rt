@@ -19,7 +19,7 @@ use recognisers::call::Verdict;
 use recognisers::counts;
 
 // The first of the refusals 3 to 6 that is true of a feed to a box that counts n bars.
-fn feed_verdict(t: Thresholds, n: u32, prices: usize, sheet: usize) -> Verdict
+pub fn feed_verdict(t: Thresholds, n: u32, prices: usize, sheet: usize) -> Verdict
     ensures { λ r. ⌜ r ≡ feedVerdict t n prices sheet ⌝ }
 {
     let valid = t.is_valid();

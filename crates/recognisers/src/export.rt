@@ -10,8 +10,9 @@ ghost use Rattle.measures.specs.Window.{windowOf};
 ghost use Rattle.recognisers.specs.Number.{gated, quarterBars};
 ghost use Rattle.recognisers.specs.Threshold.{thresholdsOf};
 ghost use Rattle.recognisers.specs.Table.{pairAt};
-ghost use Rattle.recognisers.specs.Export.{wordAt, priceAt, pricesAt, pricesOf, pairNumber, exportOf};
+ghost use Rattle.recognisers.specs.Export.{wordAt, priceAt, pricesAt, pricesOf, pairNumber, resultOf, exportOf};
 use crate::call;
+use crate::call::Answer;
 use crate::call::Verdict;
 use crate::counts;
 use crate::label::Pair;
@@ -122,7 +123,17 @@ fn pair_number(pair: Pair) -> u32
     code(v1) as u32 * 256 + code(v2) as u32
 }
 
-// The result is v1 × 256 + v2, or 65,536 plus the refusal.
+// What an answer is as a number: v1 × 256 + v2, or 65,536 plus the refusal.
+pub fn answer_number(a: Answer) -> u32
+    ensures { λ r. ⌜ r ≡ resultOf a ⌝ }
+{
+    match a {
+        Answer::Labels(pair) => pair_number(pair),
+        Answer::Refused(why) => 65536 + call::refusal_number(why) as u32,
+    }
+}
+
+// The plain call over the bars of the bytes, as a number.
 #[no_mangle]
 pub extern "C" fn jcc_label(
     recogniser: u32,
@@ -162,7 +173,7 @@ pub extern "C" fn jcc_label(
     );
     let n = bars.len();
     match call::plain_verdict(recogniser, offset, t, n % 32 == 0, n / 32) {
-        Verdict::Denied(why) => 65536 + call::refusal_number(why) as u32,
-        Verdict::Accepted => pair_number(pair_at(recogniser, t, offset, bars)),
+        Verdict::Denied(why) => answer_number(Answer::Refused(why)),
+        Verdict::Accepted => { answer_number(Answer::Labels(pair_at(recogniser, t, offset, bars))) }
     }
 }

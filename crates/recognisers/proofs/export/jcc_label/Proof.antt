@@ -12,14 +12,14 @@ unfolding exportOf plainAnswer
 returns c =
     let call = c .before .before .before .before in
     let denied = simp (call .before .new .ensures) at (sym (call .plain-verdict .ensures) ∙ c .before .before .why .given .1) in
-    simp (c .refusal-number .ensures, length-history (call .before .before .before .args .bars .now), denied)
+    simp (c .answer-number .ensures, length-history (call .before .before .before .args .bars .now), denied)
 
 returns-2 : tie.Need-returns-2
 unfolding exportOf plainAnswer
 returns-2 c =
     let call = c .before .before .before .before in
     let accepted = simp (call .before .new .ensures) at (sym (call .plain-verdict .ensures) ∙ c .before .before .enum-told .given .1) in
-    simp (c .pair-number .ensures, c .before .pair-at .ensures, call .before .new .ensures, length-history (call .before .before .before .args .bars .now), accepted)
+    simp (c .answer-number2 .ensures, c .before .pair-at .ensures, call .before .new .ensures, length-history (call .before .before .before .args .bars .now), accepted)
 
 pub jcc-label-spec : {M : Type 1} → statement M
 jcc-label-spec =
@@ -29,8 +29,6 @@ jcc-label-spec =
     (λ c κs. tt)
     (λ c. search needs)
     (λ c κs. tt)
-    (λ c. search needs)
-    (λ c. search needs)
     (λ c. search needs)
     (λ c κs. tt)
     (λ c κs. tt)

@@ -1,0 +1,2 @@
+-- The exports as definitions.
+pub mod Result
