@@ -94,9 +94,8 @@ zhuHuoXian th zf q b1 = pairOf (cond (candleOf th zf b1) Met Other) (cond (q .lo
 unfoldable pub countersOf : Extremes → Bar → Bar → Bool
 countersOf e bar2 bar3 =
     let body2 = bodyOf bar2 in
-    ne (bar2 .close) (bar2 .«open»)
-    && (le one (div binary64 (absOf (sub binary64 (bar3 .«open») (bar2 .close))) body2)
-    && le (div binary64 (absOf (sub binary64 (bar3 .close) (bar2 .close))) body2) aTenth
+    (ne (bar2 .close) (bar2 .«open») && le one (div binary64 (absOf (sub binary64 (bar3 .«open») (bar2 .close))) body2))
+    && (le (div binary64 (absOf (sub binary64 (bar3 .close) (bar2 .close))) body2) aTenth
     && le aFiftieth (div binary64 body2 (sub binary64 (e .highest) (e .lowest))))
 
 abbrev pub countersUp : Extremes → Bar → Bar → Bar → Bool

@@ -65,7 +65,7 @@ fn inner(s: &[f64]) -> &[f64]
     measures::last_bars(s, 2, minus(measures::count(s), 2))
 }
 
-// 4: san_fa_v20221118. The ends are tested before the bars between them are folded.
+// 4: san_fa_v20221118. The ends are tested before the bars between them are folded, and these fold by fold.
 
 fn rises(s: &[f64]) -> bool
     ensures { λ r. ⌜ r ≡ risesOf (barsOf (now (s .entry))) ⌝ }
@@ -76,13 +76,13 @@ fn rises(s: &[f64]) -> bool
     if ends {
         let mid = inner(s);
         let hhv = measures::highest(mid, Column::High);
-        (last.close > hhv)
-            & (hhv > first.high)
-            & (measures::lowest(mid, Column::Low) > first.open)
-            & (first.close > measures::highest(mid, Column::Close))
-    } else {
-        false
+        let between = (last.close > hhv) & (hhv > first.high);
+        if between {
+            return (measures::lowest(mid, Column::Low) > first.open)
+                & (first.close > measures::highest(mid, Column::Close));
+        }
     }
+    false
 }
 
 fn falls(s: &[f64]) -> bool
@@ -94,13 +94,13 @@ fn falls(s: &[f64]) -> bool
     if ends {
         let mid = inner(s);
         let llv = measures::lowest(mid, Column::Low);
-        (first.low > llv)
-            & (llv > last.close)
-            & (measures::highest(mid, Column::High) < first.open)
-            & (first.close < measures::lowest(mid, Column::Close))
-    } else {
-        false
+        let between = (first.low > llv) & (llv > last.close);
+        if between {
+            return (measures::highest(mid, Column::High) < first.open)
+                & (first.close < measures::lowest(mid, Column::Close));
+        }
     }
+    false
 }
 
 fn three_methods(s: &[f64]) -> Label
@@ -113,7 +113,7 @@ fn three_methods(s: &[f64]) -> Label
     )
 }
 
-// 17: ta_xing. The ends are tested before the bodies are scanned, and these before the bars between the ends.
+// 17: ta_xing. The ends are tested before the bars between them, and these before the bodies are scanned, which costs the most.
 
 // The two greatest bodies of a window, and whether no body is NaN.
 pub struct Leaders {
@@ -176,12 +176,12 @@ fn is_top(s: &[f64]) -> bool
     let last = last_bar(s);
     let turns = (first.close > first.open) & (last.close < last.open);
     if turns {
-        let lead = do_ends_lead(s);
-        if lead {
-            let mid = inner(s);
-            let bound = measures::max(first.open, last.close);
-            let above = measures::every(mid, Column::Low, Test::Above(bound));
-            if above {
+        let mid = inner(s);
+        let bound = measures::max(first.open, last.close);
+        let above = measures::every(mid, Column::Low, Test::Above(bound));
+        if above {
+            let lead = do_ends_lead(s);
+            if lead {
                 return measures::variance(mid, Column::High) < 0.5;
             }
         }
@@ -196,12 +196,12 @@ fn is_bottom(s: &[f64]) -> bool
     let last = last_bar(s);
     let turns = (first.close < first.open) & (last.close > last.open);
     if turns {
-        let lead = do_ends_lead(s);
-        if lead {
-            let mid = inner(s);
-            let bound = measures::min(first.open, last.close);
-            let below = measures::every(mid, Column::High, Test::Below(bound));
-            if below {
+        let mid = inner(s);
+        let bound = measures::min(first.open, last.close);
+        let below = measures::every(mid, Column::High, Test::Below(bound));
+        if below {
+            let lead = do_ends_lead(s);
+            if lead {
                 return measures::variance(mid, Column::Low) < 0.5;
             }
         }

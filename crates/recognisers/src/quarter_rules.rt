@@ -175,15 +175,21 @@ pub fn zhu_huo_xian(th: f64, zf: u32, q: Quarter, b1: Bar) -> Pair
 
 // 15: fan_ji_xian, which names its bars oldest first: bar3 is the judged one
 
-// Whether bar3 opens a body or more from the close of bar2 and comes back to it, after a body of some size.
+// Whether bar3 opens a body or more from the close of bar2 and comes back to it, after a body of some size. Few bars open that far off, so
+// that one division is made for most.
 fn counters(e: Extremes, bar2: Bar, bar3: Bar) -> bool
     ensures { λ r. ⌜ r ≡ countersOf e bar2 bar3 ⌝ }
 {
     let body2 = measures::body(bar2);
     let x1 = measures::abs(bar3.open - bar2.close) / body2;
-    let x2 = measures::abs(bar3.close - bar2.close) / body2;
-    let x3 = body2 / (e.highest - e.lowest);
-    (bar2.close != bar2.open) & ((x1 >= 1.0) & (x2 <= 0.1) & (x3 >= 0.02))
+    let far = (bar2.close != bar2.open) & (x1 >= 1.0);
+    if far {
+        let x2 = measures::abs(bar3.close - bar2.close) / body2;
+        let x3 = body2 / (e.highest - e.lowest);
+        (x2 <= 0.1) & (x3 >= 0.02)
+    } else {
+        false
+    }
 }
 
 fn counters_up(e: Extremes, bar1: Bar, bar2: Bar, bar3: Bar) -> bool

@@ -8,28 +8,28 @@ use Rattle.recognisers.proofs.growing_rules.is_top.Tie as tie
 returns : tie.Need-returns
 unfolding topOf
 returns c =
-    let whole = c .before .before in
+    let lead = c .before .before in
+    let whole = lead .before .before in
     let inside = whole .before .before in
-    let lead = inside .before .before in
-    let turn = lead .before in
+    let turn = inside .before in
     let read = turn .before .before .before in
     let turns = simp (read .last-bar .ensures, read .before .first-bar .ensures) at (turn .if1 .taken) in
-    let leads = sym (lead .do-ends-lead .ensures) ∙ inside .before .if2 .taken in
-    let all = simp (whole .before .max .ensures, inside .inner .ensures, read .last-bar .ensures, read .before .first-bar .ensures) at (sym (whole .every .ensures) ∙ c .before .if3 .taken) in
+    let leads = sym (lead .do-ends-lead .ensures) ∙ c .before .if3 .taken in
+    let all = simp (whole .before .max .ensures, inside .inner .ensures, read .last-bar .ensures, read .before .first-bar .ensures) at (sym (whole .every .ensures) ∙ lead .before .if2 .taken) in
     simp (c .variance .ensures, inside .inner .ensures, turns, leads, all, and-true)
 
 returns-2 : tie.Need-returns-2
 unfolding topOf
-returns-2 c =
-    let whole = c .before in
-    let inside = whole .before .before in
-    let read = inside .before .before .before .before .before .before in
-    let none = simp (whole .before .max .ensures, inside .inner .ensures, read .last-bar .ensures, read .before .first-bar .ensures) at (sym (whole .every .ensures) ∙ c .if3 .left) in
-    simp (none, and-false)
+returns-2 c = let leads = sym (c .before .do-ends-lead .ensures) ∙ c .if3 .left in simp leads
 
 returns-3 : tie.Need-returns-3
 unfolding topOf
-returns-3 c = let leads = sym (c .before .do-ends-lead .ensures) ∙ c .if2 .left in simp leads
+returns-3 c =
+    let whole = c .before in
+    let inside = whole .before .before in
+    let read = inside .before .before .before .before in
+    let none = simp (whole .before .max .ensures, inside .inner .ensures, read .last-bar .ensures, read .before .first-bar .ensures) at (sym (whole .every .ensures) ∙ c .if2 .left) in
+    simp (none, and-false)
 
 returns-4 : tie.Need-returns-4
 unfolding topOf

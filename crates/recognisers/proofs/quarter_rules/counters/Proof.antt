@@ -1,4 +1,4 @@
--- The code is the definition.
+-- The other quotients only matter where the first is great enough. Assumes nothing.
 use Rattle.recognisers.specs.QuarterRule.{countersOf}
 use Rattle.recognisers.proofs.quarter_rules.counters.Statement.{statement}
 use Rattle.recognisers.proofs.quarter_rules.counters.Tie as tie
@@ -6,15 +6,19 @@ use Rattle.recognisers.proofs.quarter_rules.counters.Tie as tie
 returns : tie.Need-returns
 unfolding countersOf
 returns c =
-    simp (
-      c .before .before .abs2 .ensures,
-      c .before .before .before .before .before .abs .ensures,
-      c .before .before .before .before .before .before .before .before .body .ensures,
-    )
+    let then = c .before .before .before .before in
+    let first = then .before .before in
+    let size = first .before .before .before in
+    let far = simp (first .abs .ensures, size .body .ensures) at (then .if1 .taken) in
+    simp (c .before .abs2 .ensures, size .body .ensures, far)
+
+returns-2 : tie.Need-returns-2
+unfolding countersOf
+returns-2 c =
+    let first = c .before .before in
+    let size = first .before .before .before in
+    let far = simp (first .abs .ensures, size .body .ensures) at (c .if1 .left) in
+    simp far
 
 pub counters-spec : {M : Type 1} → statement M
-counters-spec = tie.close (tie.spec
-    (λ c κs. tt)
-    (λ c κs. tt)
-    (λ c κs. tt)
-    returns)
+counters-spec = tie.close (tie.spec (λ c κs. tt) (λ c κs. tt) (λ c κs. tt) returns returns-2)
