@@ -47,9 +47,10 @@ pub fn make(t: Thresholds) -> Outcome
             after: fresh(t),
         }
     } else {
+        let standard = Thresholds::standard();
         Outcome {
             verdict: Verdict::Denied(Refusal::BadThreshold),
-            after: fresh(Thresholds::standard()),
+            after: fresh(standard),
         }
     }
 }

@@ -28,12 +28,18 @@ wuYunGaiDing z th top b1 b2 = pairOf (cond (coversOf z th b1 b2 && le top (b2 .c
 
 -- ---- 3: ci_tou
 
+-- o1 < l2 and c1 > c2 + (o2 − c2) × (th ÷ 100)
+unfoldable pub comesBack : ℕ → Bar → Bar → Bool
+comesBack th b1 b2 =
+    lt (b1 .«open») (b2 .low)
+    && lt (add binary64 (b2 .close) (mul binary64 (sub binary64 (b2 .«open») (b2 .close)) (div binary64 (wholeOf th) aHundred))) (b1 .close)
+
+-- c2 < o2 and 1 − c2 ÷ o2 > z ÷ 10000
 unfoldable pub ciTou : ℕ → ℕ → Bar → Bar → Pair
 ciTou z th b1 b2 =
     pairOf (cond (
     (lt (b2 .close) (b2 .«open») && lt (div binary64 (wholeOf z) tenThousand) (sub binary64 one (div binary64 (b2 .close) (b2 .«open»))))
-    && (lt (b1 .«open») (b2 .low)
-    && lt (add binary64 (b2 .close) (mul binary64 (sub binary64 (b2 .«open») (b2 .close)) (div binary64 (wholeOf th) aHundred))) (b1 .close))) Met Other) Any
+    && comesBack th b1 b2) Met Other) Any
 
 -- ---- 5: san_fa_v20221115
 
@@ -140,7 +146,7 @@ crowPair b1 b2 b3 =
     (cond (opensWithin b1 b2 && lt (b3 .«open») (b3 .close) || opensWithin b2 b3 && lt (b1 .«open») (b2 .close)) (pairOf Met HalfStrong) pairA))
 
 unfoldable pub threeCrow : Bar → Bar → Bar → Pair
-threeCrow b1 b2 b3 = cond (fallingOf b1 b2 b3 && shortShadows b1 && shortShadows b2 && shortShadows b3) (crowPair b1 b2 b3) pairA
+threeCrow b1 b2 b3 = cond (fallingOf b1 b2 b3 && (shortShadows b1 && shortShadows b2 && shortShadows b3)) (crowPair b1 b2 b3) pairA
 
 -- ---- 13: szx
 

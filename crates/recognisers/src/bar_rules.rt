@@ -7,11 +7,12 @@ ghost use Rattle.measures.specs.Bar.{barsOf, dojiOf};
 ghost use Rattle.measures.specs.Fold.{columnOf, highestOf};
 ghost use Rattle.recognisers.specs.Label.{pairA};
 ghost use Rattle.recognisers.specs.Table.{tenCloses};
-ghost use Rattle.recognisers.specs.BarRule.{coversOf, wuYunGaiDing, ciTou, changeOf, sanFaV20221115, starBodies, morningOf, eveningOf, xingXian, longShadow, holdsFalling, holdsRising, yunXian, flatOf, pingTou, twoCrow, gateShut, fallingOf, shortShadows, opensWithin, crowPair, threeCrow, dojiKind, northernOf, szx as szxOf, sanSzx, alikeOf, gapUpOf, gapDownOf, gapYinYang};
+ghost use Rattle.recognisers.specs.BarRule.{coversOf, wuYunGaiDing, comesBack, ciTou, changeOf, sanFaV20221115, starBodies, morningOf, eveningOf, xingXian, longShadow, holdsFalling, holdsRising, yunXian, flatOf, pingTou, twoCrow, gateShut, fallingOf, shortShadows, opensWithin, crowPair, threeCrow, dojiKind, northernOf, szx as szxOf, sanSzx, alikeOf, gapUpOf, gapDownOf, gapYinYang};
 use crate::counts::GATE_ABOVE;
 use crate::label::Label;
 use crate::label::Pair;
 use crate::label::pair_a;
+use crate::label::pair_b;
 use crate::label::pick;
 use crate::label::pick_pair;
 use measures::Bar;
@@ -19,12 +20,17 @@ use measures::Column;
 
 // 2: wu_yun_gai_ding
 
+// Few bars open above the high before, so that most need no division.
 fn covers(z: u32, th: u32, b1: Bar, b2: Bar) -> bool
     ensures { λ r. ⌜ r ≡ coversOf z th b1 b2 ⌝ }
 {
-    ((b2.close - b2.open) / b2.open * 10000.0 > z as f64)
-        & (b1.open > b2.high)
-        & (b1.close < (b2.close + b2.open) * (th as f64 / 100.0))
+    let above = b1.open > b2.high;
+    if above {
+        ((b2.close - b2.open) / b2.open * 10000.0 > z as f64)
+            & (b1.close < (b2.close + b2.open) * (th as f64 / 100.0))
+    } else {
+        false
+    }
 }
 
 // The ten closes are folded only where the two newest bars have the shape.
@@ -48,15 +54,31 @@ pub fn wu_yun_gai_ding(z: u32, th: u32, w: &[f64], b1: Bar, b2: Bar) -> Pair
 
 // 3: ci_tou
 
+// The newest bar opens below the low before and closes far enough up in that bar's body. Few bars open there, so that most need no
+// division.
+fn comes_back(th: u32, b1: Bar, b2: Bar) -> bool
+    ensures { λ r. ⌜ r ≡ comesBack th b1 b2 ⌝ }
+{
+    let below = b1.open < b2.low;
+    if below {
+        b1.close > b2.close + (b2.open - b2.close) * (th as f64 / 100.0)
+    } else {
+        false
+    }
+}
+
 pub fn ci_tou(z: u32, th: u32, b1: Bar, b2: Bar) -> Pair
     ensures { λ r. ⌜ r ≡ ciTou z th b1 b2 ⌝ }
 {
-    let c1 = (b2.close < b2.open) & (1.0 - b2.close / b2.open > z as f64 / 10000.0);
-    let c2 = (b1.open < b2.low)
-        & (b1.close > b2.close + (b2.open - b2.close) * (th as f64 / 100.0));
-    Pair {
-        v1: pick(c1 & c2, Label::Met, Label::Other),
-        v2: Label::Any,
+    let back = comes_back(th, b1, b2);
+    if back {
+        let fell = (b2.close < b2.open) & (1.0 - b2.close / b2.open > z as f64 / 10000.0);
+        Pair {
+            v1: pick(fell, Label::Met, Label::Other),
+            v2: Label::Any,
+        }
+    } else {
+        pair_b()
     }
 }
 
@@ -274,16 +296,24 @@ fn crow_pair(b1: Bar, b2: Bar, b3: Bar) -> Pair
     )
 }
 
-// The shape is tried before the gate, which costs a loop.
+fn have_short_shadows(b1: Bar, b2: Bar, b3: Bar) -> bool
+    ensures { λ r. ⌜ r ≡ (shortShadows b1 && shortShadows b2 && shortShadows b3) ⌝ }
+{
+    has_short_shadows(b1) & has_short_shadows(b2) & has_short_shadows(b3)
+}
+
+// The shape is tried before the gate, which costs a loop, and its first part before the shadows.
 pub fn three_crow(len: usize, gate: &[f64], b1: Bar, b2: Bar, b3: Bar) -> Pair
     ensures { λ r. ⌜ r ≡ cond (gateShut len (barsOf (now (gate .entry))) b3) pairA (threeCrow b1 b2 b3) ⌝ }
 {
-    let crows = are_falling(b1, b2, b3)
-        & has_short_shadows(b1)
-        & has_short_shadows(b2)
-        & has_short_shadows(b3);
-    if crows {
-        pick_pair(is_gate_shut(len, gate, b3), pair_a(), crow_pair(b1, b2, b3))
+    let falling = are_falling(b1, b2, b3);
+    if falling {
+        let short = have_short_shadows(b1, b2, b3);
+        if short {
+            pick_pair(is_gate_shut(len, gate, b3), pair_a(), crow_pair(b1, b2, b3))
+        } else {
+            pair_a()
+        }
     } else {
         pair_a()
     }

@@ -106,24 +106,32 @@ pub fn ten_mo(q: Quarter, b1: Bar, b2: Bar) -> Pair
     }
 }
 
-// 7: fen_shou_xian
+// 7: fen_shou_xian. Few bars open where the one before did, so that most need no division.
 
 fn parts_down(zdf: u32, b1: Bar, b2: Bar) -> bool
     ensures { λ r. ⌜ r ≡ partsDown zdf b1 b2 ⌝ }
 {
-    (b1.open == b2.open)
-        & (b1.close < b2.low)
-        & (b2.close > b2.open)
-        & ((b2.close - b1.close) / b2.close * 10000.0 > zdf as f64)
+    let level = b1.open == b2.open;
+    if level {
+        (b1.close < b2.low)
+            & (b2.close > b2.open)
+            & ((b2.close - b1.close) / b2.close * 10000.0 > zdf as f64)
+    } else {
+        false
+    }
 }
 
 fn parts_up(zdf: u32, b1: Bar, b2: Bar) -> bool
     ensures { λ r. ⌜ r ≡ partsUp zdf b1 b2 ⌝ }
 {
-    (b1.open == b2.open)
-        & (b1.close > b2.high)
-        & (b2.close < b2.open)
-        & ((b1.close - b2.close) / b2.close * 10000.0 > zdf as f64)
+    let level = b1.open == b2.open;
+    if level {
+        (b1.close > b2.high)
+            & (b2.close < b2.open)
+            & ((b1.close - b2.close) / b2.close * 10000.0 > zdf as f64)
+    } else {
+        false
+    }
 }
 
 // Equal opens bind the first alternative only.

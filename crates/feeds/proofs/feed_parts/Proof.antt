@@ -1,80 +1,133 @@
+-- The loop's invariant: the bars passed are taken in, and their rows stand on the sheet. Assumes nothing.
+use Prim.Native.Nat.{_+_, _-_, _*_, _≤_}
+use mathlib.Core.Path.{_≡_, refl, sym, _∙_}
+use native.Mathlib.Omega.{arith}
+use borrow.Author.Needs.{needs}
+use lib.ListN.{length, length-map, take}
+use lib.Seq.{take-all}
+use Rattle.measures.specs.Bar.{barsOf}
+use Rattle.measures.proofs.RunLaws.{length-bars}
+use Rattle.bar_box.specs.Sheet.{rowsOf, overlay}
+use Rattle.bar_box.specs.Box.{kept, takenIn}
+use Rattle.bar_box.proofs.Overlay.{overlay-none}
+use Rattle.bar_box.proofs.BoxLaws.{taken-none}
+use Rattle.bar_box.proofs.FeedSteps.{fits}
+use Rattle.feeds.proofs.PartLaws.{taken-more, rows-more, next-accepted, next-room}
 use Rattle.feeds.proofs.feed_parts.Statement.{statement}
 use Rattle.feeds.proofs.feed_parts.Tie as tie
-use Rattle.feeds.proofs.feed_parts.Reads as reads
-use Rattle.feeds.proofs.feed_parts.Lts as lts
-use Rattle.feeds.proofs.feed_part.Reads as feed-part-reads
-use Rattle.measures.proofs.count.Reads as count-reads
-use Rattle.measures.proofs.least.Reads as least-reads
 
 abbrev Inv-loop : tie.InvT-loop
-Inv-loop sizes prices sheet₀ total after₀ done₀ i₀ sheet after done i = ?
+Inv-loop sizes prices sheet₀ total after₀ done₀ i₀ sheet after done i = (done ≤ total) × (i ≤ length sizes) × (length sheet ≡ length sheet₀) × (after ≡ takenIn after₀ (take done (barsOf prices))) × (sheet ≡ overlay sheet₀ 0 (rowsOf (after₀ .thresholds) (after₀ .count) (kept after₀) (take done (barsOf prices))))
 
 abbrev μ-loop : tie.MeasureT-loop
-μ-loop sizes prices sheet₀ total after₀ done₀ i₀ sheet after done i = ?
+μ-loop sizes prices sheet₀ total after₀ done₀ i₀ sheet after done i = length sizes - i
 
--- src/lib.rt:38:9
 count-requires : tie.Need-count-requires Inv-loop μ-loop
-count-requires c κs = ?
+count-requires c κs = search needs
 
--- src/lib.rt:42:5
 loop-holds : tie.Need-loop-holds Inv-loop μ-loop
-loop-holds c = ?
+unfolding rowsOf
+loop-holds c =
+    let start = c .before .before .before .before in
+    let args = start .args in
+    let all : length (args .b .bars) ≡ 64 = simp length-map at (start .good .0 .1 .1 .1 .1 .0 .1 .0 .1) in
+    (search needs, search needs, refl, sym (taken-none (args .b) all), sym (overlay-none (args .sheet .now) 0))
 
--- src/lib.rt:43:23
 mul-least : tie.Need-mul-least Inv-loop μ-loop
-mul-least c = ?
+mul-least c = search needs
 
--- src/lib.rt:43:23
 shared-slice-read-least : tie.Need-shared-slice-read-least Inv-loop μ-loop
-shared-slice-read-least c = ?
+shared-slice-read-least c = search needs
 
--- src/lib.rt:43:23
 cast-least : tie.Need-cast-least Inv-loop μ-loop
-cast-least c = ?
+cast-least c = omega (arith, c .shared-slice-known3 .given (c .before .before .loop .i))
 
--- src/lib.rt:43:42
 sub-least : tie.Need-sub-least Inv-loop μ-loop
-sub-least c = ?
+sub-least c = search needs
 
--- src/lib.rt:43:13
 least-requires : tie.Need-least-requires Inv-loop μ-loop
-least-requires c κs = ?
+least-requires c κs = search needs
 
--- src/lib.rt:44:9
 feed-part-requires : tie.Need-feed-part-requires Inv-loop μ-loop
-feed-part-requires c κs = ?
+feed-part-requires c κs =
+    let found = c .before in
+    let at-loop = found .before .before .before in
+    let counted = at-loop .before in
+    let start = counted .before .before .before .before in
+    let args = start .args in
+    let inv = at-loop .loop .inv in
+    let n = found .least .result in
+    let passed = at-loop .loop .done in
+    let enough : passed + n ≤ length (barsOf (args .prices .now)) = omega (arith, found .least .ensures, counted .count .ensures, inv .0) in
+    (rw (inv .3) (next-accepted (args .b) (args .prices .now) (length (args .sheet .now)) passed n (start .pre) enough), (enough, rw (inv .2) (next-room (args .b) (args .prices .now) (length (args .sheet .now)) passed n (start .pre) enough)))
 
--- src/lib.rt:45:9
 add-done : tie.Need-add-done Inv-loop μ-loop
-add-done c = ?
+add-done c = search needs
 
--- src/lib.rt:46:9
 add-i : tie.Need-add-i Inv-loop μ-loop
-add-i c = ?
+add-i c = search needs
 
--- src/lib.rt:42:5
 loop-less : tie.Need-loop-less Inv-loop μ-loop
-loop-less c = ?
+loop-less c = search needs
 
--- src/lib.rt:42:5
 loop-again : tie.Need-loop-again Inv-loop μ-loop
-loop-again c = ?
+loop-again c =
+    let call = c .before .before in
+    let found = call .before .before in
+    let at-loop = found .before .before .before in
+    let counted = at-loop .before in
+    let start = counted .before .before .before .before in
+    let args = start .args in
+    let inv = at-loop .loop .inv in
+    let bars = barsOf (args .prices .now) in
+    let n = found .least .result in
+    let passed = at-loop .loop .done in
+    let enough : passed + n ≤ length bars = omega (arith, found .least .ensures, counted .count .ensures, inv .0) in
+    let room : 36 * length bars ≤ length (args .sheet .now) = omega (arith, length-bars (args .prices .now), fits _ _ _ _ (start .pre) .room) in
+    let all : length (args .b .bars) ≡ 64 = simp length-map at (start .good .0 .1 .1 .1 .1 .0 .1 .0 .1) in (
+      search needs,
+      search needs,
+      search needs,
+      call .feed-part .ensures .0 ∙ rw (inv .3) (taken-more (args .b) all bars passed n),
+      call .feed-part .ensures .1 ∙ rw (inv .3, inv .4) (rows-more (args .b) all bars passed n (args .sheet .now) enough room),
+    )
 
--- src/lib.rt:48:36
 sub-feed-part : tie.Need-sub-feed-part Inv-loop μ-loop
-sub-feed-part c = ?
+sub-feed-part c = search needs
 
--- src/lib.rt:48:5
 feed-part-requires-2 : tie.Need-feed-part-requires-2 Inv-loop μ-loop
-feed-part-requires-2 c κs = ?
+feed-part-requires-2 c κs =
+    let at-loop = c .before .before in
+    let counted = at-loop .before in
+    let start = counted .before .before .before .before in
+    let args = start .args in
+    let inv = at-loop .loop .inv in
+    let passed = at-loop .loop .done in
+    let n = counted .count .result - passed in
+    let enough : passed + n ≤ length (barsOf (args .prices .now)) = omega (arith, counted .count .ensures, inv .0) in
+    (rw (inv .3) (next-accepted (args .b) (args .prices .now) (length (args .sheet .now)) passed n (start .pre) enough), (enough, rw (inv .2) (next-room (args .b) (args .prices .now) (length (args .sheet .now)) passed n (start .pre) enough)))
 
--- src/lib.rt:34:1
 same-length : tie.Need-same-length Inv-loop μ-loop
-same-length c = ?
+same-length c = search needs
 
--- src/lib.rt:34:1
 returns : tie.Need-returns Inv-loop μ-loop
-returns c = ?
+returns c =
+    let call = c .before .before in
+    let at-loop = call .before .before .before in
+    let counted = at-loop .before in
+    let start = counted .before .before .before .before in
+    let args = start .args in
+    let inv = at-loop .loop .inv in
+    let bars = barsOf (args .prices .now) in
+    let passed = at-loop .loop .done in
+    let n = counted .count .result - passed in
+    let room : 36 * length bars ≤ length (args .sheet .now) = omega (arith, length-bars (args .prices .now), fits _ _ _ _ (start .pre) .room) in
+    let whole : length bars ≤ passed + n = omega (arith, counted .count .ensures, inv .0) in
+    let enough : passed + n ≤ length bars = omega (arith, counted .count .ensures, inv .0) in
+    let all : length (args .b .bars) ≡ 64 = simp length-map at (start .good .0 .1 .1 .1 .1 .0 .1 .0 .1) in (
+      call .feed-part2 .ensures .0 ∙ rw (inv .3) (taken-more (args .b) all bars passed n ∙ rw (take-all (passed + n) bars whole)),
+      call .feed-part2 .ensures .1 ∙ rw (inv .3, inv .4) (rows-more (args .b) all bars passed n (args .sheet .now) enough room ∙ rw (take-all (passed + n) bars whole)),
+    )
 
 pub feed-parts-spec : {M : Type 1} → statement M
 feed-parts-spec =

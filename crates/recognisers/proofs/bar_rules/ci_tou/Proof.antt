@@ -1,22 +1,26 @@
--- The code is the definition.
-use Rattle.recognisers.specs.BarRule.{ciTou}
+-- The bar before only matters where the newest comes back. Assumes nothing.
+use mathlib.Core.Path.{_∙_, sym}
+use mathlib.Core.Bool.{and-false, and-true}
 use borrow.Author.Needs.{needs}
+use Rattle.recognisers.specs.BarRule.{ciTou}
 use Rattle.recognisers.proofs.bar_rules.ci_tou.Statement.{statement}
 use Rattle.recognisers.proofs.bar_rules.ci_tou.Tie as tie
 
-int-to-float-c1 : tie.Need-int-to-float-c1
-int-to-float-c1 c = search needs
-
-int-to-float-c2 : tie.Need-int-to-float-c2
-int-to-float-c2 c = search needs
+int-to-float-fell : tie.Need-int-to-float-fell
+int-to-float-fell c = search needs
 
 returns : tie.Need-returns
 unfolding ciTou
-returns c = simp (c .pick .ensures)
+returns c =
+    let test = c .before .before .before .before in
+    let back = sym (test .before .comes-back .ensures) ∙ test .if1 .taken in
+    simp (c .pick .ensures, back, and-true)
+
+returns-2 : tie.Need-returns-2
+unfolding ciTou
+returns-2 c =
+    let back = sym (c .before .before .comes-back .ensures) ∙ c .before .if1 .left in
+    simp (c .pair-b .ensures, back, and-false)
 
 pub ci-tou-spec : {M : Type 1} → statement M
-ci-tou-spec = tie.close (tie.spec
-    int-to-float-c1
-    int-to-float-c2
-    (λ c κs. tt)
-    returns)
+ci-tou-spec = tie.close (tie.spec (λ c κs. tt) int-to-float-fell (λ c κs. tt) (λ c κs. tt) returns returns-2)

@@ -1,7 +1,7 @@
--- The code is the definition.
-use mathlib.Core.Path.{refl}
-use Rattle.recognisers.specs.BarRule.{coversOf}
+-- The quotients only matter where the open lies above. Assumes nothing.
+use mathlib.Core.Bool.{and-false, and-true}
 use borrow.Author.Needs.{needs}
+use Rattle.recognisers.specs.BarRule.{coversOf}
 use Rattle.recognisers.proofs.bar_rules.covers.Statement.{statement}
 use Rattle.recognisers.proofs.bar_rules.covers.Tie as tie
 
@@ -13,10 +13,11 @@ int-to-float-result-2 c = search needs
 
 returns : tie.Need-returns
 unfolding coversOf
-returns c = refl
+returns c = rw (c .before .before .before .before .before .before .if1 .taken, and-true)
+
+returns-2 : tie.Need-returns-2
+unfolding coversOf
+returns-2 c = simp (c .if1 .left, and-false)
 
 pub covers-spec : {M : Type 1} → statement M
-covers-spec = tie.close (tie.spec
-    int-to-float-result
-    int-to-float-result-2
-    returns)
+covers-spec = tie.close (tie.spec int-to-float-result int-to-float-result-2 returns returns-2)

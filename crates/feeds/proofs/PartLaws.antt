@@ -1,0 +1,150 @@
+-- A feed of a part of the prices on its part of the sheet, and feeds of parts one after the other. Assumes nothing.
+use Prim.Native.Nat.{ℕ, _+_, _-_, _*_, _≤_}
+use mathlib.Core.Path.{_≡_, _∙_}
+use mathlib.Core.List.{List, _++_, append-assoc, append-nil}
+use native.Mathlib.Omega.{arith}
+use native.Mathlib.Nat.{zero-add}
+use borrow.Rule.Slice.PartMut.{putMid}
+use lib.ListN.{length, take, drop, length-take, length-drop, drop-of-length-le}
+use lib.Seq.{take-all, take-add, length-take-le, drop-drop}
+use lib.Ieee.{Float}
+use Rattle.measures.specs.declared.bars.Bar.{Bar}
+use Rattle.measures.specs.Bar.{barsOf}
+use Rattle.measures.specs.Window.{newest}
+use Rattle.measures.proofs.RunLaws.{length-bars, bars-drop, bars-take}
+use Rattle.recognisers.specs.declared.thresholds.Thresholds.{Thresholds}
+use Rattle.recognisers.specs.declared.call.Verdict.the-variants.{Accepted}
+use Rattle.recognisers.specs.Number.{places}
+use Rattle.recognisers.specs.Refusal.{firstTrue}
+use Rattle.bar_box.specs.declared.boxes.BarBox.{BarBox}
+use Rattle.bar_box.specs.Sheet.{before, rowsOf, overlay}
+use Rattle.bar_box.specs.Box.{freshBox, madeOf, kept, takenIn, feedVerdict, fedOf, sheetOf}
+use Rattle.bar_box.proofs.SheetLaws.{length-rows, rows-append, rows-near}
+use Rattle.bar_box.proofs.BoxLaws.{newest-newest, kept-taken, taken-append}
+use Rattle.bar_box.proofs.FeedSteps.{fits, accepts}
+use Rattle.bar_box.proofs.Overlay.{overlay-more}
+
+-- ---- a part of the prices and of the sheet
+
+-- the prices of n bars from a bar on
+abbrev pub partOf : List Float → ℕ → ℕ → List Float
+partOf ps from n = take (4 * (from + n) - 4 * from) (drop (4 * from) ps)
+
+-- their bars
+part-bars : (ps : List Float) (from n : ℕ) → barsOf (partOf ps from n) ≡ take n (drop from (barsOf ps))
+part-bars ps from n =
+    let size : 4 * (from + n) - 4 * from ≡ n * 4 = omega arith in
+    let at : 4 * from ≡ from * 4 = omega arith in
+    rw (size, at, bars-take, bars-drop)
+
+-- how many prices
+length-part : (ps : List Float) (from n : ℕ) → from + n ≤ length (barsOf ps) → length (partOf ps from n) ≡ 4 * n
+length-part ps from n h =
+    let total = length-bars ps in
+    rw (length-take, length-drop) (omega arith)
+
+-- the bytes of a sheet from a byte on
+abbrev pub restOf : List ℕ → ℕ → List ℕ
+restOf s at = take (length s - at) (drop at s)
+
+-- how many bytes
+length-rest : (s : List ℕ) (at : ℕ) → length (restOf s at) ≡ length s - at
+length-rest s at = rw (length-take, length-drop) (omega arith)
+
+-- bytes written over the front of those are written over the whole from there on
+overlay-rest : (s : List ℕ) (at : ℕ) (xs : List ℕ) → putMid at (length s - at) s (overlay (restOf s at) 0 xs) ≡ overlay s at xs
+overlay-rest s at xs =
+    let left : length (drop at s) ≡ length s - at = length-drop at s in
+    rw (
+      take-all (length s - at) (drop at s) (omega arith),
+      drop-of-length-le (drop at s) {i = length s - at} (omega arith),
+      append-nil (xs ++ drop (0 + length xs) (drop at s)),
+      zero-add,
+      drop-drop (length xs) at s,
+      append-assoc (take at s) xs,
+    )
+
+-- ---- what an accepted feed leaves
+
+module _ (b : BarBox) (ps : List Float) (sheet : List ℕ) (e : feedVerdict (b .thresholds) (b .count) (length ps) (length sheet) ≡ Accepted) where
+  -- the box with the bars taken in
+  fed-box : fedOf b ps (length sheet) .after ≡ takenIn b (barsOf ps)
+  unfolding fedOf
+  fed-box = simp e
+
+  -- the sheet with their rows
+  fed-sheet : sheetOf b ps sheet ≡ overlay sheet 0 (rowsOf (b .thresholds) (b .count) (kept b) (barsOf ps))
+  unfolding sheetOf
+  fed-sheet = simp e
+
+-- ---- one feed of a part
+
+module _ (b : BarBox) (ps : List Float) (s : List ℕ) (from n : ℕ) (e : feedVerdict (b .thresholds) (b .count) (4 * n) (36 * n) ≡ Accepted) (bars : from + n ≤ length (barsOf ps)) (room : 36 * (from + n) ≤ length s) where
+  -- it is accepted
+  part-accepted : feedVerdict (b .thresholds) (b .count) (length (partOf ps from n)) (length (restOf s (36 * from))) ≡ Accepted
+  part-accepted =
+      let f = fits _ _ _ _ e in
+      let size = length-part ps from n bars in
+      let rest = length-rest s (36 * from) in
+      accepts _ _ _ _ (record { valid = f .valid; whole = omega arith; few = omega (arith, f .few); room = omega arith })
+
+  -- the box takes the part's bars in
+  pub part-box : fedOf b (partOf ps from n) (length (restOf s (36 * from))) .after ≡ takenIn b (take n (drop from (barsOf ps)))
+  part-box = fed-box b (partOf ps from n) (restOf s (36 * from)) part-accepted ∙ rw (part-bars ps from n)
+
+  -- their rows go to their place
+  pub part-sheet : putMid (36 * from) (length s - 36 * from) s (sheetOf b (partOf ps from n) (restOf s (36 * from)))
+      ≡ overlay s (36 * from) (rowsOf (b .thresholds) (b .count) (kept b) (take n (drop from (barsOf ps))))
+  part-sheet =
+      rw (fed-sheet b (partOf ps from n) (restOf s (36 * from)) part-accepted, part-bars ps from n)
+      (overlay-rest s (36 * from) (rowsOf (b .thresholds) (b .count) (kept b) (take n (drop from (barsOf ps)))))
+
+-- ---- one part after the other
+
+module _ (b : BarBox) (all : length (b .bars) ≡ places) (bars : List Bar) (passed n : ℕ) where
+  -- the box after the first part
+  abbrev after : BarBox
+  after = takenIn b (take passed bars)
+
+  -- after the next it has taken both in
+  pub taken-more : takenIn after (take n (drop passed bars)) ≡ takenIn b (take (passed + n) bars)
+  taken-more = taken-append b all (take passed bars) (take n (drop passed bars)) ∙ rw (take-add passed n bars)
+
+  -- and the rows of both stand on the sheet
+  pub rows-more : (s : List ℕ) → passed + n ≤ length bars → 36 * length bars ≤ length s
+      → overlay (overlay s 0 (rowsOf (b .thresholds) (b .count) (kept b) (take passed bars))) (36 * passed) (rowsOf (after .thresholds) (after .count) (kept after) (take n (drop passed bars)))
+      ≡ overlay s 0 (rowsOf (b .thresholds) (b .count) (kept b) (take (passed + n) bars))
+  rows-more s enough room =
+      let t = b .thresholds in
+      let xs = take passed bars in
+      let ys = take n (drop passed bars) in
+      let h = kept b ++ xs in
+      let passed-are : length xs ≡ passed = length-take-le passed bars (omega arith) in
+      let new-are : length ys ≡ n = length-take-le n (drop passed bars) (rw length-drop (omega arith)) in
+      let first = length-rows t (b .count) (kept b) xs in
+      let second = length-rows t (b .count + length xs) h ys in
+      rw (kept-taken b all xs, rows-near t (b .count + length xs) (newest places h) h ys (newest-newest places before h (omega arith)))
+      (overlay-more s 0 (rowsOf t (b .count) (kept b) xs) (rowsOf t (b .count + length xs) h ys) (36 * passed) (omega arith) (omega arith)
+      ∙ rw (take-add passed n bars, rows-append t (b .count) (kept b) xs ys))
+
+-- ---- a part of an accepted feed
+
+module _ (b : BarBox) (ps : List Float) (sheet passed n : ℕ) (e : feedVerdict (b .thresholds) (b .count) (length ps) sheet ≡ Accepted) (enough : passed + n ≤ length (barsOf ps)) where
+  -- after the bars before it, it is accepted
+  pub next-accepted : feedVerdict (b .thresholds) (b .count + length (take passed (barsOf ps))) (4 * n) (36 * n) ≡ Accepted
+  next-accepted =
+      let f = fits _ _ _ _ e in
+      let total = length-bars ps in
+      let passed-are : length (take passed (barsOf ps)) ≡ passed = length-take-le passed (barsOf ps) (omega arith) in
+      accepts _ _ _ _ (record { valid = f .valid; whole = omega arith; few = omega (arith, f .few); room = omega arith })
+
+  -- the sheet has room for its rows
+  pub next-room : 36 * (passed + n) ≤ sheet
+  next-room = omega (arith, length-bars ps, fits _ _ _ _ e .room)
+
+-- ---- the box that is fed
+
+-- where a feed is accepted, making with the same thresholds gives a fresh box with them
+pub made-fresh : (t : Thresholds) (n prices sheet : ℕ) → feedVerdict t n prices sheet ≡ Accepted → madeOf t .after ≡ freshBox t
+unfolding madeOf firstTrue
+made-fresh t n prices sheet e = simp (fits t n prices sheet e .valid)
