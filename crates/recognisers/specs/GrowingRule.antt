@@ -14,6 +14,7 @@ use Rattle.measures.specs.Fold.{columnOf, highestOf, lowestOf, varianceOf, ever
 use Rattle.recognisers.specs.declared.label.Label.{Label}
 use Rattle.recognisers.specs.declared.label.Label.the-variants.{Other, RisingThreeMethods, FallingThreeMethods, Bars5, Bars6, Bars7, Bars8, Bars9, Bottom, Top}
 use Rattle.recognisers.specs.declared.label.Pair.{Pair}
+use Rattle.recognisers.specs.declared.growing_rules.Growing.{Growing}
 use Rattle.recognisers.specs.declared.growing_rules.Leaders.{Leaders}
 use Rattle.recognisers.specs.declared.growing_rules.Shape.{Shape}
 use Rattle.recognisers.specs.declared.growing_rules.Shape.the-variants.{ThreeMethods, Tower}
@@ -117,6 +118,10 @@ tower s = cond (topOf s) Top (cond (bottomOf s) Bottom Other)
 -- windows of 5 to 9 bars
 unfoldable pub taXing : List Bar → Pair
 taXing w = firstMatch tower 5 5 w
+
+-- ---- both at once, as a row of all recognisers has them
+abbrev pub growingOf : List Bar → Growing
+growingOf w = record { methods = sanFaV20221118 w; tower = taXing w }
 
 -- ---- what the code's search tries
 abbrev pub checkOf : Shape → List Bar → Label

@@ -7,7 +7,7 @@ ghost use lib.Dec.{ltb};
 ghost use lib.ListN.{length};
 ghost use Rattle.measures.specs.Bar.{barsOf};
 ghost use Rattle.measures.specs.Window.{backOf};
-ghost use Rattle.recognisers.specs.GrowingRule.{sizeLabel, firstMatch, firstOf, lastOf, innerOf, risesOf, fallsOf, threeMethods, sanFaV20221118, leadersOf, joined, endsLead, topOf, bottomOf, tower as towerOf, checkOf, taXing, standsOut};
+ghost use Rattle.recognisers.specs.GrowingRule.{sizeLabel, firstMatch, firstOf, lastOf, innerOf, risesOf, fallsOf, threeMethods, sanFaV20221118, leadersOf, joined, endsLead, topOf, bottomOf, tower as towerOf, checkOf, taXing, growingOf, standsOut};
 use crate::label::Label;
 use crate::label::Pair;
 use crate::label::code;
@@ -292,5 +292,29 @@ pub fn ta_xing(w: &[f64]) -> Pair
         first_match(Shape::Tower, 5, w)
     } else {
         pair_a()
+    }
+}
+
+// The pairs of 4 and 17 over the same window.
+pub struct Growing {
+    pub methods: Pair,
+    pub tower: Pair,
+}
+
+// Both at once: the test that most bars fail is made once.
+pub fn growing_pairs(w: &[f64]) -> Growing
+    ensures { λ r. ⌜ r ≡ growingOf (barsOf (now (w .entry))) ⌝ }
+{
+    let may = may_match(w);
+    if may {
+        let methods = first_match(Shape::ThreeMethods, 4, w);
+        let tower = first_match(Shape::Tower, 5, w);
+        Growing { methods, tower }
+    } else {
+        let none = pair_a();
+        Growing {
+            methods: none,
+            tower: none,
+        }
     }
 }

@@ -109,7 +109,8 @@ pub fn pair_at(k: u32, t: Thresholds, len: usize, prices: &[f64], di: usize) -> 
     judge(k, t, len, p, w, gate)
 }
 
-// Every recogniser over the same windows. What several rules read is read once: the newest bars and the extremes of the quarter.
+// Every recogniser over the same windows. What several rules need is made once: the newest bars, the extremes of the quarter, and the test
+// that 4 and 17 begin with.
 fn pairs(t: Thresholds, len: usize, p: usize, w: &[f64], gate: &[f64]) -> [Pair; 18]
     ensures { λ r. ⌜ r ≡ pairsOf t len p (barsOf (now (w .entry))) (barsOf (now (gate .entry))) ⌝ }
 {
@@ -121,6 +122,9 @@ fn pairs(t: Thresholds, len: usize, p: usize, w: &[f64], gate: &[f64]) -> [Pair;
     let b6 = back(w, 6);
     let e = quarter_extremes(w);
     let q = quarter_in(p >= REACH_BARS, e, b1);
+    let g = growing_rules::growing_pairs(w);
+    let methods = g.methods;
+    let tower = g.tower;
     let a = pair_a();
     let b = pair_b();
     [
@@ -128,7 +132,7 @@ fn pairs(t: Thresholds, len: usize, p: usize, w: &[f64], gate: &[f64]) -> [Pair;
         row(p, 2, a, quarter_rules::ten_mo(q, b1, b2)),
         row(p, 12, b, bar_rules::wu_yun_gai_ding(t.z2, t.th2, w, b1, b2)),
         row(p, 16, b, bar_rules::ci_tou(t.z3, t.th3, b1, b2)),
-        row(p, 5, a, growing_rules::san_fa_v20221118(w)),
+        row(p, 5, a, methods),
         row(
             p,
             6,
@@ -146,7 +150,7 @@ fn pairs(t: Thresholds, len: usize, p: usize, w: &[f64], gate: &[f64]) -> [Pair;
         row(p, 8, b, bar_rules::san_szx(t.th14, b1, b2, b3, b4, b5)),
         row(p, 21, b, quarter_rules::fan_ji_xian(e, b3, b2, b1)),
         row(p, 7, b, bar_rules::gap_yin_yang(b1, b2, b3)),
-        row(p, 5, a, growing_rules::ta_xing(w)),
+        row(p, 5, a, tower),
     ]
 }
 

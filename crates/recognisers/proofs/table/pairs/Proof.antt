@@ -10,7 +10,7 @@ use Rattle.recognisers.proofs.table.pairs.Tie as tie
 returns : tie.Need-returns
 unfolding pairsOf numbers rowOf rows quarterOf
 returns c =
-    let c16 = c .before .before in
+    let c16 = c .before in
     let c15 = c16 .before .before in
     let c14 = c15 .before .before in
     let c13 = c14 .before .before in
@@ -23,12 +23,13 @@ returns c =
     let c6 = c7 .before .before in
     let c5 = c6 .before .before in
     let c4 = c5 .before .before in
-    let c3 = c4 .before .before in
+    let c3 = c4 .before in
     let c2 = c3 .before .before in
     let c1 = c2 .before .before in
     let c0 = c1 .before .before in
     let read = c0 .before .before in
-    let q = read .before .before in
+    let grown = read .before .before .before .before in
+    let q = grown .before in
     let args = q .before .before .before .before .before .before .before .before .before .before .args in
     let w = barsOf (args .w .now) in
     let gate = barsOf (args .gate .now) in
@@ -36,7 +37,7 @@ returns c =
     let e1 : c1 .row2 .result ≡ judgeOf 1 (args .t) (args .len) (args .p) w gate = simp (c1 .row2 .ensures, c1 .before .ten-mo .ensures, read .before .pair-a .ensures, q .quarter-in .ensures, q .before .quarter-extremes .ensures, q .before .before .before .before .before .before .before .back .ensures, q .before .before .before .before .before .before .back2 .ensures, judge-row 1 (args .t) (args .len) (args .p) w gate refl) in
     let e2 : c2 .row3 .result ≡ judgeOf 2 (args .t) (args .len) (args .p) w gate = simp (c2 .row3 .ensures, c2 .before .wu-yun-gai-ding .ensures, read .pair-b .ensures, q .before .before .before .before .before .before .before .back .ensures, q .before .before .before .before .before .before .back2 .ensures, judge-row 2 (args .t) (args .len) (args .p) w gate refl) in
     let e3 : c3 .row4 .result ≡ judgeOf 3 (args .t) (args .len) (args .p) w gate = simp (c3 .row4 .ensures, c3 .before .ci-tou .ensures, read .pair-b .ensures, q .before .before .before .before .before .before .before .back .ensures, q .before .before .before .before .before .before .back2 .ensures, judge-row 3 (args .t) (args .len) (args .p) w gate refl) in
-    let e4 : c4 .row5 .result ≡ judgeOf 4 (args .t) (args .len) (args .p) w gate = simp (c4 .row5 .ensures, c4 .before .san-fa-v20221118 .ensures, read .before .pair-a .ensures, judge-row 4 (args .t) (args .len) (args .p) w gate refl) in
+    let e4 : c4 .row5 .result ≡ judgeOf 4 (args .t) (args .len) (args .p) w gate = simp (c4 .row5 .ensures, grown .growing-pairs .ensures, read .before .pair-a .ensures, judge-row 4 (args .t) (args .len) (args .p) w gate refl) in
     let e5 : c5 .row6 .result ≡ judgeOf 5 (args .t) (args .len) (args .p) w gate = simp (c5 .row6 .ensures, c5 .before .san-fa-v20221115 .ensures, read .before .pair-a .ensures, q .before .before .before .before .before .before .before .back .ensures, q .before .before .before .before .before .before .back2 .ensures, q .before .before .before .before .before .back3 .ensures, q .before .before .before .before .back4 .ensures, q .before .before .before .back5 .ensures, q .before .before .back6 .ensures, judge-row 5 (args .t) (args .len) (args .p) w gate refl) in
     let e6 : c6 .row7 .result ≡ judgeOf 6 (args .t) (args .len) (args .p) w gate = simp (c6 .row7 .ensures, c6 .before .xing-xian .ensures, read .pair-b .ensures, q .before .before .before .before .before .before .before .back .ensures, q .before .before .before .before .before .before .back2 .ensures, q .before .before .before .before .before .back3 .ensures, judge-row 6 (args .t) (args .len) (args .p) w gate refl) in
     let e7 : c7 .row8 .result ≡ judgeOf 7 (args .t) (args .len) (args .p) w gate = simp (c7 .row8 .ensures, c7 .before .fen-shou-xian .ensures, read .before .pair-a .ensures, q .quarter-in .ensures, q .before .quarter-extremes .ensures, q .before .before .before .before .before .before .before .back .ensures, q .before .before .before .before .before .before .back2 .ensures, judge-row 7 (args .t) (args .len) (args .p) w gate refl) in
@@ -49,14 +50,13 @@ returns c =
     let e14 : c14 .row15 .result ≡ judgeOf 14 (args .t) (args .len) (args .p) w gate = simp (c14 .row15 .ensures, c14 .before .san-szx .ensures, read .pair-b .ensures, q .before .before .before .before .before .before .before .back .ensures, q .before .before .before .before .before .before .back2 .ensures, q .before .before .before .before .before .back3 .ensures, q .before .before .before .before .back4 .ensures, q .before .before .before .back5 .ensures, judge-row 14 (args .t) (args .len) (args .p) w gate refl) in
     let e15 : c15 .row16 .result ≡ judgeOf 15 (args .t) (args .len) (args .p) w gate = simp (c15 .row16 .ensures, c15 .before .fan-ji-xian .ensures, read .pair-b .ensures, q .before .quarter-extremes .ensures, q .before .before .before .before .before .before .before .back .ensures, q .before .before .before .before .before .before .back2 .ensures, q .before .before .before .before .before .back3 .ensures, judge-row 15 (args .t) (args .len) (args .p) w gate refl) in
     let e16 : c16 .row17 .result ≡ judgeOf 16 (args .t) (args .len) (args .p) w gate = simp (c16 .row17 .ensures, c16 .before .gap-yin-yang .ensures, read .pair-b .ensures, q .before .before .before .before .before .before .before .back .ensures, q .before .before .before .before .before .before .back2 .ensures, q .before .before .before .before .before .back3 .ensures, judge-row 16 (args .t) (args .len) (args .p) w gate refl) in
-    let e17 : c .row18 .result ≡ judgeOf 17 (args .t) (args .len) (args .p) w gate = simp (c .row18 .ensures, c .before .ta-xing .ensures, read .before .pair-a .ensures, judge-row 17 (args .t) (args .len) (args .p) w gate refl) in
+    let e17 : c .row18 .result ≡ judgeOf 17 (args .t) (args .len) (args .p) w gate = simp (c .row18 .ensures, grown .growing-pairs .ensures, read .before .pair-a .ensures, judge-row 17 (args .t) (args .len) (args .p) w gate refl) in
     both e0 (both e1 (both e2 (both e3 (both e4 (both e5 (both e6 (both e7 (both e8 (both e9 (both e10 (both e11 (both e12 (both e13 (both e14 (both e15 (both e16 (both e17 refl)))))))))))))))))
 
 pub pairs-spec : {M : Type 1} → statement M
 pairs-spec =
     tie.close
     (tie.spec
-    (λ c κs. tt)
     (λ c κs. tt)
     (λ c κs. tt)
     (λ c κs. tt)
