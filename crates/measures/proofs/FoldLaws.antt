@@ -1,19 +1,18 @@
 -- Folds over a column: one turn of a loop, what a fold gives when an older bar comes in front, and what it says of each price.
 -- Assumes nothing.
 use Prim.Native.Nat.{ℕ, zero, suc, _+_, _<_, _≤_}
-use mathlib.Core.Path.{_≡_, refl, sym}
+use mathlib.Core.Path.{_≡_, refl}
 use mathlib.Core.Bool.{Bool, true, false, cond, _&&_, and-true, and-assoc, and-eq-true-iff}
-use mathlib.Core.List.{List, [], _∷_, _++_, foldl}
+use mathlib.Core.List.{List, [], _∷_, foldl}
 use native.Mathlib.Omega.{arith}
 use lib.ListN.{length, getD, drop}
 use lib.Ieee.{Float, nan, inf, fin, lt, isNan}
 use Rattle.measures.specs.declared.bars.Bar.{Bar}
 use Rattle.measures.specs.declared.folds.Column.{Column}
-use Rattle.measures.specs.declared.folds.Column.the-variants.{High, Low}
 use Rattle.measures.specs.Price.{maxOf, minOf}
 use Rattle.measures.specs.Bar.{noBar}
-use Rattle.measures.specs.Fold.{priceOf, columnOf, highestOf, lowestOf, everyOf, extremesOf, joinedOf}
-use Rattle.measures.proofs.Order.{max-assoc, min-assoc, max-known, min-known, max-under, min-over, max-second, min-second, both-ways}
+use Rattle.measures.specs.Fold.{priceOf, columnOf, highestOf, lowestOf, everyOf}
+use Rattle.measures.proofs.Order.{max-assoc, min-assoc, max-known, min-known, max-under, min-over, max-second, min-second}
 use Rattle.measures.proofs.RunLaws.{from-bar, past-bars}
 
 -- one turn: what is left to fold from the i-th bar on, its price taken in; and the end, where nothing is left
@@ -79,6 +78,16 @@ pub lowest-grows : (x : Float) (xs : List Float) → lowestOf (x ∷ xs) ≡ min
 unfolding lowestOf
 lowest-grows x xs = rw (min-start x) (fold-min x (inf false) xs)
 
+-- ---- one price of a column, from a fact of all of them
+
+-- a fact P of the prices that says Q of the first and P of the rest says Q of each
+module _ (P : List Float → Type 0) (Q : Float → Type 0) (step : (x : Float) (xs : List Float) → P (x ∷ xs) → Q x × P xs) (c : Column) where
+  of-each : (bars : List Bar) (i : ℕ) → i < length bars → P (columnOf c bars) → Q (priceOf c (getD bars i noBar))
+  unfolding columnOf
+  of-each [] i h p = absurd (let z : ⊥ = omega arith in z)
+  of-each (b ∷ bars) zero h p = step (priceOf c b) (columnOf c bars) p .0
+  of-each (b ∷ bars) (suc i) h p = of-each bars i (omega arith) (step (priceOf c b) (columnOf c bars) p .1)
+
 -- an extreme is never NaN: the folds begin at an infinity
 known-highest : (xs : List Float) → isNan (highestOf xs) ≡ false
 unfolding highestOf isNan
@@ -89,52 +98,6 @@ known-lowest : (xs : List Float) → isNan (lowestOf xs) ≡ false
 unfolding lowestOf isNan
 known-lowest [] = refl
 known-lowest (x ∷ xs) = rw (lowest-grows x xs) (min-known x (lowestOf xs) (known-lowest xs))
-
--- ---- the extremes of two runs, the one after the other
-
--- the folds' starts change nothing that is no NaN
-max-from-start : (x : Float) → isNan x ≡ false → maxOf (inf true) x ≡ x
-unfolding maxOf isNan lt
-max-from-start nan known = both-ways refl known
-max-from-start (inf true) known = refl
-max-from-start (inf false) known = refl
-max-from-start (fin s m e) known = refl
-
-min-from-start : (x : Float) → isNan x ≡ false → minOf (inf false) x ≡ x
-unfolding minOf isNan lt
-min-from-start nan known = both-ways refl known
-min-from-start (inf true) known = refl
-min-from-start (inf false) known = refl
-min-from-start (fin s m e) known = refl
-
-highest-append : (xs ys : List Float) → highestOf (xs ++ ys) ≡ maxOf (highestOf xs) (highestOf ys)
-unfolding highestOf
-highest-append [] ys = sym (max-from-start (highestOf ys) (known-highest ys))
-highest-append (x ∷ xs) ys = rw (highest-grows x (xs ++ ys), highest-append xs ys, highest-grows x xs) (sym (max-assoc x (highestOf xs) (highestOf ys)))
-
-lowest-append : (xs ys : List Float) → lowestOf (xs ++ ys) ≡ minOf (lowestOf xs) (lowestOf ys)
-unfolding lowestOf
-lowest-append [] ys = sym (min-from-start (lowestOf ys) (known-lowest ys))
-lowest-append (x ∷ xs) ys = rw (lowest-grows x (xs ++ ys), lowest-append xs ys, lowest-grows x xs) (sym (min-assoc x (lowestOf xs) (lowestOf ys)))
-
-column-append : (c : Column) (xs ys : List Bar) → columnOf c (xs ++ ys) ≡ columnOf c xs ++ columnOf c ys
-unfolding columnOf
-column-append c [] ys = refl
-column-append c (x ∷ xs) ys = rw (column-append c xs ys)
-
-pub extremes-append : (xs ys : List Bar) → extremesOf (xs ++ ys) ≡ joinedOf (extremesOf xs) (extremesOf ys)
-unfolding extremesOf
-extremes-append xs ys = rw (column-append High xs ys, column-append Low xs ys, highest-append (columnOf High xs) (columnOf High ys), lowest-append (columnOf Low xs) (columnOf Low ys))
-
--- ---- one price of a column, from a fact of all of them
-
--- a fact P of the prices that says Q of the first and P of the rest says Q of each
-module _ (P : List Float → Type 0) (Q : Float → Type 0) (step : (x : Float) (xs : List Float) → P (x ∷ xs) → Q x × P xs) (c : Column) where
-  of-each : (bars : List Bar) (i : ℕ) → i < length bars → P (columnOf c bars) → Q (priceOf c (getD bars i noBar))
-  unfolding columnOf
-  of-each [] i h p = absurd (let z : ⊥ = omega arith in z)
-  of-each (b ∷ bars) zero h p = step (priceOf c b) (columnOf c bars) p .0
-  of-each (b ∷ bars) (suc i) h p = of-each bars i (omega arith) (step (priceOf c b) (columnOf c bars) p .1)
 
 module _ (c : Column) (bars : List Bar) (i : ℕ) (h : i < length bars) where
   -- where the highest is below z, no price is above it; where the lowest is above z, none is below it

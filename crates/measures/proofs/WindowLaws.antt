@@ -7,7 +7,7 @@ use mathlib.Core.Bool.{Bool, true, false, cond}
 use mathlib.Core.List.{List, [], _∷_, _++_}
 use native.Mathlib.Omega.{arith}
 use lib.Dec.{leb, ltb, eqb}
-use lib.ListN.{length, take, drop, length-drop, take-append-drop}
+use lib.ListN.{length, take, drop, length-drop}
 use lib.Seq.{take-length, take-add, drop-at, drop-drop, getD-take, getD-drop, length-take-le}
 use lib.Ieee.{Float}
 use borrow.Author.Tests.{eqb-false, ltb-true, ltb-false, leb-true, leb-false, eq-eqb, ne-eqb, lt-ltb, le-ltb}
@@ -160,10 +160,3 @@ all-of-it w n h =
 
 pub window-again : (history : List Bar) (di n : ℕ) → windowOf (windowOf history di n) 1 n ≡ windowOf history di n
 window-again history di n = all-of-it (windowOf history di n) n (omega (arith, length-window history di n))
-
--- the first k bars and the window of the others are the run
-pub run-cut : (bars : List Bar) (k : ℕ) → k ≤ length bars → take k bars ++ windowOf bars 1 (length bars - k) ≡ bars
-unfolding windowOf newest
-run-cut bars k h =
-    let at : length bars - (length bars - k) ≡ k = omega arith in
-    simp (upTo-one (length bars), take-length bars, at) (take-append-drop k bars)

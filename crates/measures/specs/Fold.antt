@@ -70,10 +70,6 @@ testOf (Below bound) x = lt x bound
 unfoldable pub extremesOf : List Bar → Extremes
 extremesOf bars = record { highest = highestOf (columnOf High bars); lowest = lowestOf (columnOf Low bars) }
 
--- those of two runs, the one after the other, from those of each
-abbrev pub joinedOf : Extremes → Extremes → Extremes
-joinedOf e f = record { highest = maxOf (e .highest) (f .highest); lowest = minOf (e .lowest) (f .lowest) }
-
 -- 0.25 × gap, with gap = Lmax − Lmin
 abbrev pub quarterGap : Extremes → Float
 quarterGap e = mul binary64 aQuarter (sub binary64 (e .highest) (e .lowest))

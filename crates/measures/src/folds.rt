@@ -2,13 +2,11 @@
 ghost use mathlib.Core.Path.{_≡_};
 ghost use mathlib.Core.List.{[], _∷_, foldl};
 ghost use Rattle.measures.specs.Bar.{barsOf};
-ghost use Rattle.measures.specs.Fold.{priceOf, columnOf, stepOf, highestOf, lowestOf, sizeOf, meanOf, varianceOf, testOf, everyOf, extremesOf, joinedOf, lowSide, highSide};
+ghost use Rattle.measures.specs.Fold.{priceOf, columnOf, stepOf, highestOf, lowestOf, sizeOf, meanOf, varianceOf, testOf, everyOf, extremesOf, lowSide, highSide};
 use crate::bars::Bar;
 use crate::price;
 use crate::windows::bar_at;
 use crate::windows::count;
-use crate::windows::first_bars;
-use crate::windows::last_bars;
 
 // A price of a bar.
 pub enum Column {
@@ -142,8 +140,8 @@ pub struct Extremes {
     pub lowest: f64,
 }
 
-// The extremes of a run by one scan. Neither is ever NaN, so that one comparison a price is enough.
-fn scan(prices: &[f64]) -> Extremes
+// The extremes of a run. Neither is ever NaN, so that one comparison a price is enough.
+pub fn extremes_of(prices: &[f64]) -> Extremes
     ensures { λ r. ⌜ r ≡ extremesOf (barsOf (now (prices .entry))) ⌝ }
 {
     let n = count(prices);
@@ -160,27 +158,6 @@ fn scan(prices: &[f64]) -> Extremes
         highest: top,
         lowest: bottom,
     }
-}
-
-// The extremes of a run and of one that follows it.
-fn joined(e: Extremes, f: Extremes) -> Extremes
-    ensures { λ r. ⌜ r ≡ joinedOf e f ⌝ }
-{
-    Extremes {
-        highest: price::max(e.highest, f.highest),
-        lowest: price::min(e.lowest, f.lowest),
-    }
-}
-
-// The extremes of a run, as those of its halves: each comparison of a scan waits for the one before, and two scans need not wait for each
-// other.
-pub fn extremes_of(prices: &[f64]) -> Extremes
-    ensures { λ r. ⌜ r ≡ extremesOf (barsOf (now (prices .entry))) ⌝ }
-{
-    let n = count(prices);
-    let half = n / 2;
-    let older = scan(first_bars(prices, half));
-    joined(older, scan(last_bars(prices, 1, n - half)))
 }
 
 // Whether a bar reaches into the lowest quarter between the extremes.
