@@ -11,12 +11,15 @@ use crate::boxes::BarBox;
 use crate::boxes::Outcome;
 use crate::runs;
 use crate::sheets;
+use crate::sheets::BEFORE;
 use measures::Bar;
 use measures::least;
 use recognisers::Thresholds;
 use recognisers::call::Refusal;
 use recognisers::call::Verdict;
-use recognisers::counts;
+use recognisers::counts::MOST_BARS;
+use recognisers::counts::PLACES;
+use recognisers::counts::ROW_BYTES;
 
 // The first of the refusals 3 to 6 that is true of a feed to a box that counts n bars.
 pub fn feed_verdict(t: Thresholds, n: u32, prices: usize, sheet: usize) -> Verdict
@@ -30,10 +33,10 @@ pub fn feed_verdict(t: Thresholds, n: u32, prices: usize, sheet: usize) -> Verdi
         return Verdict::Denied(Refusal::BrokenBars);
     }
     let bars = prices / 4;
-    if counts::MOST_BARS < n as usize + bars {
+    if MOST_BARS < n as usize + bars {
         return Verdict::Denied(Refusal::TooManyBars);
     }
-    if sheet < 36 * bars {
+    if sheet < ROW_BYTES * bars {
         return Verdict::Denied(Refusal::ShortSheet);
     }
     Verdict::Accepted
@@ -44,9 +47,9 @@ fn lay(bars: [Bar; 64], count: u32, prices: &[f64]) -> [Bar; 64]
     ensures { λ r. ⌜ r ≡ laid bars (take count bars ++ barsOf (now (prices .entry))) ⌝ }
 {
     let n = measures::count(prices);
-    let kept = least(count as usize, 64);
-    let new = least(n, 64);
-    let stay = least(kept, 64 - new);
+    let kept = least(count as usize, PLACES);
+    let new = least(n, PLACES);
+    let stay = least(kept, PLACES - new);
     let moved = runs::move_bars(bars, kept - stay, stay);
     runs::lay_bars(moved, stay, prices, n - new, new)
 }
@@ -57,9 +60,9 @@ fn join(bars: [Bar; 64], count: u32, prices: &[f64], run: &mut [f64]) -> usize
     requires { ⌜ 168 ≤ length (now run) ⌝ }
     ensures { λ r. ⌜ (r ≤ 168) × (barsOf (take r (now (run .exit))) ≡ newest before (take count bars) ++ take before (barsOf (now (prices .entry)))) ⌝ }
 {
-    let kept = least(count as usize, 64);
-    let old = least(kept, 21);
-    let new = least(measures::count(prices), 21);
+    let kept = least(count as usize, PLACES);
+    let old = least(kept, BEFORE);
+    let new = least(measures::count(prices), BEFORE);
     runs::put_bars(bars, kept - old, old, run);
     runs::put_prices(prices, 4 * new, run, 4 * old);
     4 * old + 4 * new
@@ -74,10 +77,10 @@ fn label(t: Thresholds, count: u32, bars: [Bar; 64], prices: &[f64], sheet: &mut
     // room for 42 bars
     let mut run = [0.0; 168];
     let end = join(bars, count, prices, &mut run);
-    let old = least(least(count as usize, 64), 21);
-    let new = least(measures::count(prices), 21);
+    let old = least(least(count as usize, PLACES), BEFORE);
+    let new = least(measures::count(prices), BEFORE);
     sheets::label_run(t, &run[..end], old, count as usize, sheet, 0);
-    sheets::label_run(t, prices, new, count as usize + new, sheet, 36 * new);
+    sheets::label_run(t, prices, new, count as usize + new, sheet, ROW_BYTES * new);
 }
 
 // Takes the lent bars in and writes a row for each, or refuses and leaves box and sheet as they were.

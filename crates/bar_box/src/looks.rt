@@ -32,7 +32,7 @@ fn look_verdict(k: u32, di: u32, t: Thresholds, n: u32) -> Verdict
     if counts::MOST_BARS < n as usize {
         return Verdict::Denied(Refusal::TooManyBars);
     }
-    if 43 < di {
+    if counts::FARTHEST_LOOK < di {
         return Verdict::Denied(Refusal::FarLook);
     }
     Verdict::Accepted
@@ -42,7 +42,7 @@ fn look_verdict(k: u32, di: u32, t: Thresholds, n: u32) -> Verdict
 fn pair_back(t: Thresholds, count: u32, bars: [Bar; 64], k: u32, di: u32) -> Pair
     ensures { λ r. ⌜ r ≡ pairAt k t count (take count bars) di ⌝ }
 {
-    let kept = least(count as usize, 64);
+    let kept = least(count as usize, counts::PLACES);
     let mut run = [0.0; 256];
     runs::put_bars(bars, 0, kept, &mut run);
     let end = 4 * kept;

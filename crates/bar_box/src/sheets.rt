@@ -7,8 +7,12 @@ ghost use Rattle.recognisers.specs.Table.{codesOf};
 ghost use Rattle.bar_box.specs.Sheet.{rowsOf, overlay};
 use recognisers::Pair;
 use recognisers::Thresholds;
+use recognisers::counts::ROW_BYTES;
 use recognisers::label::code;
 use recognisers::table::newest_pairs;
+
+// The bars before a bar that its row can read: the reach less the bar itself.
+pub(crate) const BEFORE: usize = 21;
 
 // Writes the codes of pairs from a place of the sheet on.
 fn write_row(pairs: [Pair; 18], sheet: &mut [u8], at: usize)
@@ -46,7 +50,7 @@ pub(crate) fn label_run(
     while j < n {
         let history = measures::first_bars(prices, first + j + 1);
         let pairs = newest_pairs(t, len + j + 1, history);
-        write_row(pairs, sheet, at + 36 * j);
+        write_row(pairs, sheet, at + ROW_BYTES * j);
         j += 1;
     }
 }

@@ -16,6 +16,7 @@ use recognisers::Answer;
 use recognisers::Thresholds;
 use recognisers::call::Verdict;
 use recognisers::call::refusal_number;
+use recognisers::counts::ROW_BYTES;
 use recognisers::export::answer_number;
 
 // One feed of n of the lent bars from a bar on; their rows go to their place of the sheet.
@@ -25,7 +26,7 @@ fn feed_part(b: BarBox, prices: &[f64], from: usize, n: usize, sheet: &mut [u8])
 {
     let a = 4 * from;
     let e = 4 * (from + n);
-    let at = 36 * from;
+    let at = ROW_BYTES * from;
     let out = bar_box::feed(b, &prices[a..e], &mut sheet[at..]);
     out.after
 }

@@ -21,3 +21,11 @@ pub const GATE_ABOVE: usize = 23;
 pub const MOST_BARS: usize = 1000000;
 
 pub const MOST_WHOLE: u32 = 1000000;
+
+// A sheet's row: two codes for each recogniser.
+pub const ROW_BYTES: usize = 36;
+
+// The places of a box, and the farthest offset of a look.
+pub const PLACES: usize = 64;
+
+pub const FARTHEST_LOOK: u32 = 43;
