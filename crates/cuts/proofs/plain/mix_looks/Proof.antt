@@ -1,0 +1,50 @@
+-- `cuts::plain::mix_looks` is safe and ends. Assumes nothing.
+use Prim.Native.Nat.{_≤_, _-_}
+use borrow.Author.Needs.{needs}
+use Rattle.cuts.proofs.plain.mix_looks.Statement.{statement}
+use Rattle.cuts.proofs.plain.mix_looks.Tie as tie
+
+abbrev Inv-loop : tie.InvT-loop
+Inv-loop d prices k next₀ di₀ next di = di ≤ 45
+
+abbrev μ-loop : tie.MeasureT-loop
+μ-loop d prices k next₀ di₀ next di = 45 - di
+
+loop-holds : tie.Need-loop-holds Inv-loop μ-loop
+loop-holds c = search needs
+
+look-requires : tie.Need-look-requires Inv-loop μ-loop
+look-requires c κs = search needs
+
+cast-mix : tie.Need-cast-mix Inv-loop μ-loop
+cast-mix c = search needs
+
+mix-requires : tie.Need-mix-requires Inv-loop μ-loop
+mix-requires c κs = search needs
+
+add-di : tie.Need-add-di Inv-loop μ-loop
+add-di c = search needs
+
+loop-less : tie.Need-loop-less Inv-loop μ-loop
+loop-less c = search needs
+
+loop-again : tie.Need-loop-again Inv-loop μ-loop
+loop-again c = search needs
+
+returns : tie.Need-returns Inv-loop μ-loop
+returns c = search needs
+
+pub mix-looks-spec : {M : Type 1} → statement M
+mix-looks-spec =
+    tie.close
+    (tie.spec
+    Inv-loop
+    μ-loop
+    loop-holds
+    look-requires
+    cast-mix
+    mix-requires
+    add-di
+    loop-less
+    loop-again
+    returns)

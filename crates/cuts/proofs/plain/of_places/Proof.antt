@@ -1,0 +1,46 @@
+-- `cuts::plain::of_places` is safe and ends. Assumes nothing.
+use Prim.Native.Nat.{_≤_, _-_}
+use borrow.Author.Needs.{needs}
+use Rattle.cuts.proofs.plain.of_places.Statement.{statement}
+use Rattle.cuts.proofs.plain.of_places.Tie as tie
+
+abbrev Inv-loop : tie.InvT-loop
+Inv-loop prices d₀ i₀ d i = i ≤ 64
+
+abbrev μ-loop : tie.MeasureT-loop
+μ-loop prices d₀ i₀ d i = 64 - i
+
+loop-holds : tie.Need-loop-holds Inv-loop μ-loop
+loop-holds c = search needs
+
+bar-in-requires : tie.Need-bar-in-requires Inv-loop μ-loop
+bar-in-requires c κs = search needs
+
+mix-bar-requires : tie.Need-mix-bar-requires Inv-loop μ-loop
+mix-bar-requires c κs = search needs
+
+add-i : tie.Need-add-i Inv-loop μ-loop
+add-i c = search needs
+
+loop-less : tie.Need-loop-less Inv-loop μ-loop
+loop-less c = search needs
+
+loop-again : tie.Need-loop-again Inv-loop μ-loop
+loop-again c = search needs
+
+returns : tie.Need-returns Inv-loop μ-loop
+returns c = search needs
+
+pub of-places-spec : {M : Type 1} → statement M
+of-places-spec =
+    tie.close
+    (tie.spec
+    Inv-loop
+    μ-loop
+    loop-holds
+    bar-in-requires
+    mix-bar-requires
+    add-i
+    loop-less
+    loop-again
+    returns)
