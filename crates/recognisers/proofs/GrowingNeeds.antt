@@ -1,8 +1,8 @@
 -- What every match of 4 and of 17 needs, so that it can be tested before any window is tried: the newest bar stands out from the three
--- before it. Assumes nothing.
+-- before it; and what each window needs of its first bar, before its other bars are read. Assumes nothing.
 use Prim.Native.Nat.{ℕ, _+_, _-_, _<_, _≤_, min}
 use mathlib.Core.Path.{_≡_, refl, _∙_, subst}
-use mathlib.Core.Bool.{Bool, true, false, _||_, and-false, or-true}
+use mathlib.Core.Bool.{Bool, true, false, _&&_, _||_, and-false, or-true}
 use mathlib.Core.List.{List}
 use native.Mathlib.Omega.{arith}
 use borrow.Author.Tests.{ltb-false}
@@ -10,17 +10,19 @@ use lib.Dec.{ltb}
 use lib.ListN.{length, getD}
 use lib.Ieee.{Float, lt}
 use Rattle.measures.specs.declared.bars.Bar.{Bar}
-use Rattle.measures.specs.declared.folds.Column.the-variants.{High, Low}
+use Rattle.measures.specs.declared.folds.Column.the-variants.{Close, High, Low}
 use Rattle.measures.specs.Price.{maxOf, minOf}
 use Rattle.measures.specs.Bar.{noBar}
 use Rattle.measures.specs.Window.{windowOf, backOf}
 use Rattle.measures.specs.Fold.{columnOf, highestOf, lowestOf, everyOf}
-use Rattle.measures.proofs.Order.{lt-asym, known-left, known-right, max-second, min-second, both-ways}
+use Rattle.measures.proofs.Order.{lt-asym, known-left, known-right, max-second, min-second, max-under, min-over, both-ways}
 use Rattle.measures.proofs.FoldLaws.{under, over, every-at}
 use Rattle.measures.proofs.WindowLaws.{upTo-in, upTo-one, length-window, back-window}
 use Rattle.recognisers.specs.declared.label.Label.the-variants.{Other}
+use Rattle.recognisers.specs.declared.growing_rules.Shape.{Shape}
+use Rattle.recognisers.specs.declared.growing_rules.Shape.the-variants.{ThreeMethods, Tower}
 use Rattle.recognisers.specs.Label.{pairA}
-use Rattle.recognisers.specs.GrowingRule.{firstOf, lastOf, innerOf, risesOf, fallsOf, threeMethods, sanFaV20221118, topOf, bottomOf, tower, taXing, standsOut}
+use Rattle.recognisers.specs.GrowingRule.{firstOf, lastOf, innerOf, risesOf, fallsOf, threeMethods, sanFaV20221118, topOf, bottomOf, tower, taXing, standsOut, checkOf, mayBeMethods, mayBeTower, mayBegin}
 use Rattle.recognisers.proofs.GrowingLaws.{match-none}
 
 abbrev newestOut : List Bar → Bool
@@ -134,6 +136,107 @@ module _ (w : List Bar) (n : ℕ) (long : 5 ≤ length w) (many : 5 ≤ n) where
     no-tower : tower s ≡ Other
     unfolding tower
     no-tower = simp (no-top, no-bottom)
+
+  -- ---- and each shape asks of its first bar what the code tests before it looks at a window
+
+  same-back : (i j : ℕ) → min i (length w) ≡ min j (length w) → backOf w i ≡ backOf w j
+  unfolding backOf
+  same-back i j e = rw e
+
+  first : firstOf s ≡ backOf w n
+  unfolding firstOf
+  first =
+      let size : length s ≡ min n (length w) = length-window w 1 n ∙ rw (upTo-one (length w)) in
+      let some = length-s in
+      back-window w 1 n (length s) (omega arith) (omega arith) (omega arith) (omega arith) ∙ same-back (length s + 1 - 1) n (omega arith)
+
+  abbrev f : Bar
+  f = backOf w n
+
+  abbrev begins : (Bar → Bar → Bar → Bar → Bar → Bool) → Bool
+  begins may = may f (backOf w 1) (backOf w 2) (backOf w 3) (backOf w 4)
+
+  abbrev up-ends : Bool
+  up-ends = lt o c && lt (f .«open») (f .close) && lt (f .high) c
+
+  abbrev down-ends : Bool
+  down-ends = lt c o && lt (f .close) (f .«open») && lt c (f .low)
+
+  rise-begins : up-ends ≡ true → lt (highestOf (columnOf Close mid)) (f .close) ≡ true → begins mayBeMethods ≡ true
+  unfolding mayBeMethods
+  rise-begins e e' =
+      let at = of-three (λ b. lt (f .close) (b .close) ≡ false) (λ j k. under Close mid j k (f .close) e') in
+      simp (e, at 1 (omega arith) (omega arith), at 2 (omega arith) (omega arith), at 3 (omega arith) (omega arith))
+
+  fall-begins : down-ends ≡ true → lt (f .close) (lowestOf (columnOf Close mid)) ≡ true → begins mayBeMethods ≡ true
+  unfolding mayBeMethods
+  fall-begins e e' =
+      let at = of-three (λ b. lt (b .close) (f .close) ≡ false) (λ j k. over Close mid j k (f .close) e') in
+      simp (e, at 1 (omega arith) (omega arith), at 2 (omega arith) (omega arith), at 3 (omega arith) (omega arith), or-true)
+
+  abbrev top-ends : Bool
+  top-ends = lt (f .«open») (f .close) && lt c o
+
+  abbrev bottom-ends : Bool
+  bottom-ends = lt (f .close) (f .«open») && lt o c
+
+  top-begins : top-ends ≡ true → everyOf (λ x. lt (maxOf (f .«open») c) x) (columnOf Low mid) ≡ true → begins mayBeTower ≡ true
+  unfolding mayBeTower
+  top-begins e e' =
+      let at = of-three (λ b. lt (b .low) (f .«open») ≡ false) (λ j k. max-under (f .«open») c _ (every-at Low mid j k _ e')) in
+      simp (e, at 1 (omega arith) (omega arith), at 2 (omega arith) (omega arith), at 3 (omega arith) (omega arith))
+
+  bottom-begins : bottom-ends ≡ true → everyOf (λ x. lt x (minOf (f .«open») c)) (columnOf High mid) ≡ true → begins mayBeTower ≡ true
+  unfolding mayBeTower
+  bottom-begins e e' =
+      let at = of-three (λ b. lt (f .«open») (b .high) ≡ false) (λ j k. min-over (f .«open») c _ (every-at High mid j k _ e')) in
+      simp (e, at 1 (omega arith) (omega arith), at 2 (omega arith) (omega arith), at 3 (omega arith) (omega arith), or-true)
+
+  no-rise-begun : begins mayBeMethods ≡ false → risesOf s ≡ false
+  unfolding risesOf
+  no-rise-begun unfit =
+      fails up-ends (lt (highestOf (columnOf Close mid)) (f .close))
+      (λ e. simp (last, first, e))
+      (λ e. simp (last, first, e, and-false))
+      (λ e e'. both-ways (rise-begins e e') unfit)
+
+  no-fall-begun : begins mayBeMethods ≡ false → fallsOf s ≡ false
+  unfolding fallsOf
+  no-fall-begun unfit =
+      fails down-ends (lt (f .close) (lowestOf (columnOf Close mid)))
+      (λ e. simp (last, first, e))
+      (λ e. simp (last, first, e, and-false))
+      (λ e e'. both-ways (fall-begins e e') unfit)
+
+  no-top-begun : begins mayBeTower ≡ false → topOf s ≡ false
+  unfolding topOf
+  no-top-begun unfit =
+      fails top-ends (everyOf (λ x. lt (maxOf (f .«open») c) x) (columnOf Low mid))
+      (λ e. simp (last, first, e, and-false))
+      (λ e. simp (last, first, e, and-false))
+      (λ e e'. both-ways (top-begins e e') unfit)
+
+  no-bottom-begun : begins mayBeTower ≡ false → bottomOf s ≡ false
+  unfolding bottomOf
+  no-bottom-begun unfit =
+      fails bottom-ends (everyOf (λ x. lt x (minOf (f .«open») c)) (columnOf High mid))
+      (λ e. simp (last, first, e, and-false))
+      (λ e. simp (last, first, e, and-false))
+      (λ e e'. both-ways (bottom-begins e e') unfit)
+
+  -- where it fails, the window has no label
+  unbegun : (shape : Shape) → begins (mayBegin shape) ≡ false → checkOf shape s ≡ Other
+  unfolding threeMethods tower
+  unbegun ThreeMethods unfit = simp (no-rise-begun unfit, no-fall-begun unfit)
+  unbegun Tower unfit = simp (no-top-begun unfit, no-bottom-begun unfit)
+
+-- a window of 5 bars or more without what the code tests has no label; with fewer bars the code looks at it
+pub no-window : (shape : Shape) (w : List Bar) (n : ℕ) → 5 ≤ n
+    → (ltb (length w) 5 || mayBegin shape (backOf w n) (backOf w 1) (backOf w 2) (backOf w 3) (backOf w 4)) ≡ false
+    → checkOf shape (windowOf w 1 n) ≡ Other
+no-window shape w n many unfit =
+    let e = neither (ltb (length w) 5) (mayBegin shape (backOf w n) (backOf w 1) (backOf w 2) (backOf w 3) (backOf w 4)) unfit in
+    unbegun w n (ltb-false (length w) 5 (e .0)) many shape (e .1)
 
 -- ---- where the code's test fails, 4 and 17 find nothing
 

@@ -6,8 +6,8 @@ ghost use mathlib.Core.List.{[]};
 ghost use lib.Dec.{ltb};
 ghost use lib.ListN.{length};
 ghost use Rattle.measures.specs.Bar.{barsOf};
-ghost use Rattle.measures.specs.Window.{backOf};
-ghost use Rattle.recognisers.specs.GrowingRule.{sizeLabel, firstMatch, firstOf, lastOf, innerOf, risesOf, fallsOf, threeMethods, sanFaV20221118, leadersOf, joined, endsLead, topOf, bottomOf, tower as towerOf, checkOf, taXing, growingOf, standsOut};
+ghost use Rattle.measures.specs.Window.{backOf, windowOf};
+ghost use Rattle.recognisers.specs.GrowingRule.{sizeLabel, firstMatch, firstOf, lastOf, innerOf, risesOf, fallsOf, threeMethods, sanFaV20221118, leadersOf, joined, endsLead, topOf, bottomOf, tower as towerOf, checkOf, taXing, growingOf, standsOut, mayBeMethods, mayBeTower, mayBegin};
 use crate::label::Label;
 use crate::label::Pair;
 use crate::label::code;
@@ -230,6 +230,54 @@ fn check(shape: Shape, s: &[f64]) -> Label
     }
 }
 
+// What a window of either shape needs of its first bar and of the newest four: most windows fail it, and none of their other bars is read.
+fn may_be_methods(first: Bar, b1: Bar, b2: Bar, b3: Bar, b4: Bar) -> bool
+    ensures { λ r. ⌜ r ≡ mayBeMethods first b1 b2 b3 b4 ⌝ }
+{
+    let c = first.close;
+    let up = (b1.close > b1.open) & (c > first.open) & (b1.close > first.high);
+    let down = (b1.close < b1.open) & (c < first.open) & (b1.close < first.low);
+    (up & (!(c < b2.close) & !(c < b3.close) & !(c < b4.close)))
+        | (down & (!(b2.close < c) & !(b3.close < c) & !(b4.close < c)))
+}
+
+fn may_be_tower(first: Bar, b1: Bar, b2: Bar, b3: Bar, b4: Bar) -> bool
+    ensures { λ r. ⌜ r ≡ mayBeTower first b1 b2 b3 b4 ⌝ }
+{
+    let o = first.open;
+    let top = (first.close > o) & (b1.close < b1.open);
+    let bottom = (first.close < o) & (b1.close > b1.open);
+    (top & (!(b2.low < o) & !(b3.low < o) & !(b4.low < o)))
+        | (bottom & (!(o < b2.high) & !(o < b3.high) & !(o < b4.high)))
+}
+
+fn may_begin(shape: Shape, first: Bar, b1: Bar, b2: Bar, b3: Bar, b4: Bar) -> bool
+    ensures { λ r. ⌜ r ≡ mayBegin shape first b1 b2 b3 b4 ⌝ }
+{
+    match shape {
+        Shape::ThreeMethods => may_be_methods(first, b1, b2, b3, b4),
+        Shape::Tower => may_be_tower(first, b1, b2, b3, b4),
+    }
+}
+
+// The label of the window of the newest n bars.
+fn try_window(shape: Shape, w: &[f64], n: usize) -> Label
+    requires { ⌜ 5 ≤ n ⌝ }
+    ensures { λ r. ⌜ r ≡ checkOf shape (windowOf (barsOf (now (w .entry))) 1 n) ⌝ }
+{
+    let first = measures::back(w, n);
+    let b1 = measures::back(w, 1);
+    let b2 = measures::back(w, 2);
+    let b3 = measures::back(w, 3);
+    let b4 = measures::back(w, 4);
+    let may = (measures::count(w) < 5) | may_begin(shape, first, b1, b2, b3, b4);
+    if may {
+        check(shape, measures::last_bars(w, 1, n))
+    } else {
+        Label::Other
+    }
+}
+
 // Windows of 5 bars and up are tried, k of them; the first match gives the label.
 fn first_match(shape: Shape, k: usize, w: &[f64]) -> Pair
     requires { ⌜ k ≤ 5 ⌝ }
@@ -238,7 +286,7 @@ fn first_match(shape: Shape, k: usize, w: &[f64]) -> Pair
     let to = 5 + k;
     let mut n = 5;
     while n < to {
-        let t = check(shape, measures::last_bars(w, 1, n));
+        let t = try_window(shape, w, n);
         let found = code(t);
         if found != 0 {
             return Pair {

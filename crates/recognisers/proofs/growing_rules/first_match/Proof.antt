@@ -24,17 +24,20 @@ loop-holds c =
     let e : 5 + k - 5 ≡ k = omega arith in
     (omega arith, refl, rw e)
 
+try-window-requires : tie.Need-try-window-requires Inv-loop μ-loop
+try-window-requires c κs = omega arith
+
 size-label-requires : tie.Need-size-label-requires Inv-loop μ-loop
 size-label-requires c κs = omega arith
 
 returns : tie.Need-returns Inv-loop μ-loop
 returns c =
     let found = c .before .before in
-    let at-loop = found .before .before .before .before in
+    let at-loop = found .before .before .before in
     let args = at-loop .before .before .args in
     let now = at-loop .loop in
-    let some = rw (found .code .ensures, found .before .check .ensures, found .before .before .last-bars .ensures) at (c .before .if1 .taken) in
-    simp (c .size-label .ensures, found .before .check .ensures, found .before .before .last-bars .ensures) (sym (match-hit (checkOf (args .shape)) (barsOf (args .w .now)) (5 + args .k) (now .n) (omega arith) some) ∙ now .inv .2)
+    let some = rw (found .code .ensures, found .before .try-window .ensures) at (c .before .if1 .taken) in
+    simp (c .size-label .ensures, found .before .try-window .ensures) (sym (match-hit (checkOf (args .shape)) (barsOf (args .w .now)) (5 + args .k) (now .n) (omega arith) some) ∙ now .inv .2)
 
 add-n : tie.Need-add-n Inv-loop μ-loop
 add-n c = omega arith
@@ -45,10 +48,10 @@ loop-less c = omega arith
 loop-again : tie.Need-loop-again Inv-loop μ-loop
 loop-again c =
     let found = c .before in
-    let at-loop = found .before .before .before .before in
+    let at-loop = found .before .before .before in
     let args = at-loop .before .before .args in
     let now = at-loop .loop in
-    let none = rw (found .code .ensures, found .before .check .ensures, found .before .before .last-bars .ensures) at (c .if1 .left) in
+    let none = rw (found .code .ensures, found .before .try-window .ensures) at (c .if1 .left) in
     (omega arith, refl, sym (match-miss (checkOf (args .shape)) (barsOf (args .w .now)) (5 + args .k) (now .n) (omega arith) none) ∙ now .inv .2)
 
 returns-2 : tie.Need-returns-2 Inv-loop μ-loop
@@ -66,8 +69,7 @@ first-match-spec =
     μ-loop
     add-to
     loop-holds
-    (λ c κs. tt)
-    (λ c κs. tt)
+    try-window-requires
     (λ c κs. tt)
     size-label-requires
     returns
