@@ -1,48 +1,95 @@
 -- The table of the recognisers: past its end the pair is A; only 12 reads its gate; over prices the pair is the history's.
 -- Assumes nothing.
-use Prim.Native.Nat.{ℕ, zero, suc, _≤_, zero-le}
-use mathlib.Core.Path.{_≡_, refl}
+use Prim.Native.Nat.{ℕ, zero, suc, _+_, _<_, _≤_, zero-le}
+use native.Mathlib.Nat.{add-zero, zero-add, le-of-suc-le-suc, not-suc-le-zero}
+use native.Mathlib.Numerals.{add-one}
+use mathlib.Core.Path.{_≡_, refl, sym, _∙_, ap}
 use mathlib.Core.Bool.{Bool, true, false, cond}
-use mathlib.Core.List.{List, _∷_}
+use mathlib.Core.List.{List, [], _∷_, _++_, map, append-assoc}
 use native.Mathlib.Omega.{arith}
 use borrow.Author.Tests.{eqb-false, ne-eqb, le-ltb}
 use lib.Dec.{eqb, ltb, leb}
-use lib.ListN.{List·getD-eq-default}
+use lib.ListN.{length, getD, take, drop, set, List·getD-eq-default}
+use lib.Seq.{drop-cons, set-at, take-suc, length-take-le}
 use Rattle.measures.specs.declared.bars.Bar.{Bar}
 use Rattle.measures.specs.Window.{windowOf}
 use Rattle.recognisers.specs.declared.label.Pair.{Pair}
 use Rattle.recognisers.specs.declared.thresholds.Thresholds.{Thresholds}
-use Rattle.recognisers.specs.Label.{pairA}
+use Rattle.recognisers.specs.Label.{pairA, pairB}
 use Rattle.recognisers.specs.Number.{recognisers, gated, reachBars, quarterBars, gateEnd}
 use Rattle.recognisers.specs.BarRule.{gateShut}
-use Rattle.recognisers.specs.Table.{rows, rowOf, noRow, b3, judgeOf}
+use Rattle.recognisers.specs.Table.{Row, rows, rowOf, noRow, ruleOf, judgeOf, numbers, rulesOf, pairsOf}
 
 past-table : (k : ℕ) → recognisers ≤ k → rowOf k ≡ noRow
 unfolding rowOf rows
 past-table k h = List·getD-eq-default rows noRow h
 
--- past the table the pair is A
-pub judge-past : (k : ℕ) (t : Thresholds) (len p : ℕ) (w gate : List Bar) → recognisers ≤ k → judgeOf k t len p w gate ≡ pairA
+-- ---- the columns of the table
+element : {A B : Type 0} (f : A → B) (xs : List A) (k : ℕ) (d : A) (e : B) → k < length xs → getD (map f xs) k e ≡ f (getD xs k d)
+element f [] k d e h = absurd (not-suc-le-zero h)
+element f (x ∷ xs) zero d e h = refl
+element f (x ∷ xs) (suc k) d e h = element f xs k d e (le-of-suc-le-suc h)
+
+pub from-at : (k : ℕ) → k < recognisers → getD (1 ∷ 2 ∷ 12 ∷ 16 ∷ 5 ∷ 6 ∷ 3 ∷ 2 ∷ 1 ∷ 2 ∷ 2 ∷ 3 ∷ 3 ∷ 11 ∷ 8 ∷ 21 ∷ 7 ∷ 5 ∷ []) k 0 ≡ rowOf k .from
+unfolding rowOf rows
+from-at k h = element (λ (r : Row). r .from) rows k noRow 0 h
+
+pub short-at : (k : ℕ) → k < recognisers
+    → cond (getD (false ∷ false ∷ true ∷ true ∷ false ∷ false ∷ true ∷ false ∷ false ∷ true ∷ true ∷ true ∷ false ∷ false ∷ true ∷ true ∷ true ∷ false ∷ []) k false) pairB pairA ≡ rowOf k .short
+unfolding rowOf rows
+short-at k h =
+    sym (element (λ (b : Bool). cond b pairB pairA) (false ∷ false ∷ true ∷ true ∷ false ∷ false ∷ true ∷ false ∷ false ∷ true ∷ true ∷ true ∷ false ∷ false ∷ true ∷ true ∷ true ∷ false ∷ []) k false pairA h)
+    ∙ element (λ (r : Row). r .short) rows k noRow pairA h
+
+-- the short pair below the p given, else what the rule gave; and so for each of a run of rows from k on
+abbrev pub shortOr : ℕ → ℕ → Pair → Pair
+shortOr p k full = cond (ltb p (rowOf k .from)) (rowOf k .short) full
+
+unfoldable pub shortOrs : ℕ → ℕ → List Pair → List Pair
+shortOrs p k [] = []
+shortOrs p k (full ∷ fulls) = shortOr p k full ∷ shortOrs p (k + 1) fulls
+
+pub length-shortOrs : (p k : ℕ) (fulls : List Pair) → length (shortOrs p k fulls) ≡ length fulls
+unfolding shortOrs
+length-shortOrs p k [] = refl
+length-shortOrs p k (full ∷ fulls) = ap suc (length-shortOrs p (k + 1) fulls)
+
+shortOrs-at : (p k : ℕ) (fulls : List Pair) (i : ℕ) (d : Pair) → i < length fulls → getD (shortOrs p k fulls) i d ≡ shortOr p (k + i) (getD fulls i d)
+unfolding shortOrs
+shortOrs-at p k [] i d h = absurd (not-suc-le-zero h)
+shortOrs-at p k (full ∷ fulls) zero d h = rw add-zero
+shortOrs-at p k (full ∷ fulls) (suc i) d h = let e : k + suc i ≡ k + 1 + i = omega arith in rw e (shortOrs-at p (k + 1) fulls i d (le-of-suc-le-suc h))
+
+pub shortOrs-first : (p : ℕ) (fulls : List Pair) (i : ℕ) (d : Pair) → i < length fulls → getD (shortOrs p 0 fulls) i d ≡ shortOr p i (getD fulls i d)
+shortOrs-first p fulls i d h = rw zero-add at (shortOrs-at p 0 fulls i d h)
+
+-- of all rules they are the pairs
+pub length-rules : (t : Thresholds) (len : ℕ) (deep : Bool) (w gate : List Bar) → length (rulesOf t len deep w gate) ≡ recognisers
+unfolding rulesOf numbers
+length-rules t len deep w gate = refl
+
+pub shortOrs-rules : (t : Thresholds) (len p : ℕ) (w gate : List Bar) → shortOrs p 0 (rulesOf t len (leb reachBars p) w gate) ≡ pairsOf t len p w gate
+unfolding shortOrs rulesOf pairsOf numbers judgeOf
+shortOrs-rules t len p w gate = refl
+
+-- one element more of a list that takes another's place
+pub place-next : (new old : List Pair) (i : ℕ) (d : Pair) → i < length new → i < length old
+    → set (take i new ++ drop i old) i (getD new i d) ≡ take (i + 1) new ++ drop (i + 1) old
+place-next new old i d h g =
+    rw (drop-cons old i d g, set-at (take i new) _ _ (getD new i d) i (length-take-le i new (omega arith)), add-one i, take-suc new i d h) (simp append-assoc)
+
+-- past the table the rule gives A, and so does the recogniser
+pub rule-past : (k : ℕ) (t : Thresholds) (len : ℕ) (deep : Bool) (w gate : List Bar) → recognisers ≤ k → ruleOf k t len deep w gate ≡ pairA
+rule-past k t len deep w gate h = simp (past-table k h, ne-eqb k gated (λ e. omega (arith, h)))
+
+pub judge-past : (k : ℕ) (t : Thresholds) (len p : ℕ) (w gate : List Bar) → recognisers ≤ k → judgeOf k t len p w gate ≡ ruleOf k t len (leb reachBars p) w gate
 unfolding judgeOf
-judge-past k t len p w gate h = simp (past-table k h, le-ltb p 0 zero-le, ne-eqb k gated (λ e. omega (arith, h)))
+judge-past k t len p w gate h = simp (past-table k h, le-ltb p 0 zero-le)
 
 -- a recogniser other than 12 reads neither the gate's window nor len
 pub judge-gateless : (k : ℕ) (t : Thresholds) (len len' p : ℕ) (w gate gate' : List Bar) → (k ≡ gated → ⊥) → judgeOf k t len p w gate ≡ judgeOf k t len' p w gate'
 unfolding judgeOf
 judge-gateless k t len len' p w gate gate' other = simp (ne-eqb k gated other)
-
--- its pair is that of its row
-pub judge-row : (k : ℕ) (t : Thresholds) (len p : ℕ) (w gate : List Bar) → eqb k gated ≡ false
-    → judgeOf k t len p w gate ≡ cond (ltb p (rowOf k .from)) (rowOf k .short) (rowOf k .rule t (leb reachBars p) w)
-unfolding judgeOf
-judge-row k t len p w gate e = simp e
-
--- that of 12 is A where its gate is shut
-pub judge-gated : (t : Thresholds) (len p : ℕ) (w gate : List Bar)
-    → judgeOf gated t len p w gate
-    ≡ cond (ltb p (rowOf gated .from)) (rowOf gated .short) (cond (gateShut len gate (b3 w)) pairA (rowOf gated .rule t (leb reachBars p) w))
-unfolding judgeOf
-judge-gated t len p w gate = refl
 
 -- so that for such a recogniser no window of the gate need be there
 pub gate-enough : (k : ℕ) (t : Thresholds) (len p : ℕ) (w history : List Bar)

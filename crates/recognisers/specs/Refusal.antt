@@ -14,10 +14,9 @@ use Rattle.recognisers.specs.declared.call.Verdict.{Verdict}
 use Rattle.recognisers.specs.declared.call.Verdict.the-variants.{Accepted, Denied}
 use Rattle.recognisers.specs.declared.call.Answer.{Answer}
 use Rattle.recognisers.specs.declared.call.Answer.the-variants.{Labels, Refused}
-use Rattle.recognisers.specs.Label.{codeOf}
 use Rattle.recognisers.specs.Threshold.{validOf}
 use Rattle.recognisers.specs.Number.{recognisers, rowBytes, mostBars, farthestLook, longestLine}
-use Rattle.recognisers.specs.Table.{pairAt}
+use Rattle.recognisers.specs.Table.{pairAt, codesOf}
 
 -- ---- the numbers
 
@@ -108,5 +107,5 @@ refusalIn (Labels pair) = 0
 refusalIn (Refused r) = refusalNumber r
 
 abbrev pub codesIn : Answer → List ℕ
-codesIn (Labels pair) = codeOf (pair .v1) ∷ codeOf (pair .v2) ∷ []
+codesIn (Labels pair) = codesOf (pair ∷ [])
 codesIn (Refused r) = []

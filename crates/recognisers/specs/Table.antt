@@ -79,12 +79,13 @@ noRow = row 0 pairA (λ t deep w. pairA)
 unfoldable pub rowOf : ℕ → Row
 rowOf k = getD rows k noRow
 
--- recogniser k over the window w that ends with the judged bar, of which p bars lie up to it: below the p given, the short pair; of 12,
--- A where its gate is shut, which reads len and a window of its own; else the rule
+-- the rule of recogniser k; of 12, A where its gate is shut, which reads len and a window of its own
+abbrev pub ruleOf : ℕ → Thresholds → ℕ → Bool → List Bar → List Bar → Pair
+ruleOf k t len deep w gate = cond (eqb k gated && gateShut len gate (b3 w)) pairA (rowOf k .rule t deep w)
+
+-- recogniser k over the window w that ends with the judged bar, of which p bars lie up to it: below the p given, the short pair, else the rule
 unfoldable pub judgeOf : ℕ → Thresholds → ℕ → ℕ → List Bar → List Bar → Pair
-judgeOf k t len p w gate =
-    cond (ltb p (rowOf k .from)) (rowOf k .short)
-    (cond (eqb k gated && gateShut len gate (b3 w)) pairA (rowOf k .rule t (leb reachBars p) w))
+judgeOf k t len p w gate = cond (ltb p (rowOf k .from)) (rowOf k .short) (ruleOf k t len (leb reachBars p) w gate)
 
 -- the pair at offset di of a history of len bars, of which at least the newest are given: p counts the bars up to the judged one, the
 -- window has the last 22 of them, and the gate's 20 bars end third from the newest
@@ -107,6 +108,9 @@ unfoldable pub codesOf : List Pair → List ℕ
 codesOf [] = []
 codesOf (pair ∷ pairs) = codeOf (pair .v1) ∷ codeOf (pair .v2) ∷ codesOf pairs
 
--- ---- the same over the windows of a judged bar, as the code's helper has it
+-- ---- the same over the windows of a judged bar, as the code's helpers have it
+unfoldable pub rulesOf : Thresholds → ℕ → Bool → List Bar → List Bar → List Pair
+rulesOf t len deep w gate = map (λ k. ruleOf k t len deep w gate) (numbers recognisers 0)
+
 unfoldable pub pairsOf : Thresholds → ℕ → ℕ → List Bar → List Bar → List Pair
 pairsOf t len p w gate = map (λ k. judgeOf k t len p w gate) (numbers recognisers 0)

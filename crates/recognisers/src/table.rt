@@ -3,7 +3,9 @@ ghost use mathlib.Core.Path.{_≡_};
 ghost use mathlib.Core.Bool.{cond};
 ghost use lib.Dec.{ltb};
 ghost use Rattle.measures.specs.Bar.{barsOf};
-ghost use Rattle.recognisers.specs.Table.{judgeOf, pairAt, pairsAt, pairsOf};
+ghost use Prim.Native.Nat.{_<_};
+ghost use Rattle.recognisers.specs.Number.{recognisers};
+ghost use Rattle.recognisers.specs.Table.{rowOf, ruleOf, judgeOf, pairAt, pairsAt, rulesOf, pairsOf};
 use crate::bar_rules;
 use crate::counts::GATE_END;
 use crate::counts::QUARTER_BARS;
@@ -20,83 +22,78 @@ use crate::quarter_rules::quarter_of;
 use crate::thresholds::Thresholds;
 use measures::back;
 
-// The short pair below the p given, else the rule's.
-fn row(p: usize, from: usize, short: Pair, full: Pair) -> Pair
-    ensures { λ r. ⌜ r ≡ cond (ltb p from) short full ⌝ }
+// The p from which each rule holds, in the order of the numbers.
+const FROM: [usize; 18] = [1, 2, 12, 16, 5, 6, 3, 2, 1, 2, 2, 3, 3, 11, 8, 21, 7, 5];
+
+// Whether the short pair of each is B.
+const SHORT_IS_B: [bool; 18] = [
+    false,
+    false,
+    true,
+    true,
+    false,
+    false,
+    true,
+    false,
+    false,
+    true,
+    true,
+    true,
+    false,
+    false,
+    true,
+    true,
+    true,
+    false,
+];
+
+// The short pair of recogniser k below the p given, else the rule's.
+fn row(k: usize, p: usize, full: Pair) -> Pair
+    requires { ⌜ k < recognisers ⌝ }
+    ensures { λ r. ⌜ r ≡ cond (ltb p (rowOf k .from)) (rowOf k .short) full ⌝ }
 {
-    pick_pair(p < from, short, full)
+    let short = pick_pair(SHORT_IS_B[k], pair_b(), pair_a());
+    pick_pair(p < FROM[k], short, full)
 }
 
-// Recogniser k over the window w that ends with the judged bar, of which p bars of the history lie up to it. The gate of 12
-// reads len and a window of its own. Past the table the pair is A.
-pub fn judge(k: u32, t: Thresholds, len: usize, p: usize, w: &[f64], gate: &[f64]) -> Pair
-    ensures { λ r. ⌜ r ≡ judgeOf k t len p (barsOf (now (w .entry))) (barsOf (now (gate .entry))) ⌝ }
+// The rule of recogniser k over the window w that ends with the judged bar; deep: 22 bars or more lie up to it. The gate of 12 reads len
+// and a window of its own. Past the table the pair is A.
+fn rule(k: u32, t: Thresholds, len: usize, deep: bool, w: &[f64], gate: &[f64]) -> Pair
+    ensures { λ r. ⌜ r ≡ ruleOf k t len deep (barsOf (now (w .entry))) (barsOf (now (gate .entry))) ⌝ }
 {
-    let deep = p >= REACH_BARS;
     let b1 = back(w, 1);
     let b2 = back(w, 2);
     let b3 = back(w, 3);
     match k {
-        0 => row(
-            p,
-            1,
-            pair_a(),
-            quarter_rules::san_xing_xian(t.th0, quarter_of(deep, w), b1),
-        ),
-        1 => row(
-            p,
-            2,
-            pair_a(),
-            quarter_rules::ten_mo(quarter_of(deep, w), b1, b2),
-        ),
-        2 => row(
-            p,
-            12,
-            pair_b(),
-            bar_rules::wu_yun_gai_ding(t.z2, t.th2, w, b1, b2),
-        ),
-        3 => row(p, 16, pair_b(), bar_rules::ci_tou(t.z3, t.th3, b1, b2)),
-        4 => row(p, 5, pair_a(), growing_rules::san_fa_v20221118(w)),
-        5 => row(
-            p,
-            6,
-            pair_a(),
-            bar_rules::san_fa_v20221115(t.zdf5, b1, b2, b3, back(w, 4), back(w, 5), back(w, 6)),
-        ),
-        6 => row(p, 3, pair_b(), bar_rules::xing_xian(t.th6, b1, b2, b3)),
-        7 => row(
-            p,
-            2,
-            pair_a(),
-            quarter_rules::fen_shou_xian(t.zdf7, quarter_of(deep, w), b1, b2),
-        ),
-        8 => row(
-            p,
-            1,
-            pair_a(),
-            quarter_rules::zhu_huo_xian(t.th8, t.zf8, quarter_of(deep, w), b1),
-        ),
-        9 => row(p, 2, pair_b(), bar_rules::yun_xian(b1, b2)),
-        10 => row(p, 2, pair_b(), bar_rules::ping_tou(t.th10, b1, b2)),
-        11 => row(p, 3, pair_b(), bar_rules::two_crow(b1, b2, b3)),
-        12 => row(p, 3, pair_a(), bar_rules::three_crow(len, gate, b1, b2, b3)),
-        13 => row(p, 11, pair_a(), bar_rules::szx(t.th13, b1, b2)),
-        14 => row(
-            p,
-            8,
-            pair_b(),
-            bar_rules::san_szx(t.th14, b1, b2, b3, back(w, 4), back(w, 5)),
-        ),
-        15 => row(
-            p,
-            21,
-            pair_b(),
-            quarter_rules::fan_ji_xian(quarter_extremes(w), b3, b2, b1),
-        ),
-        16 => row(p, 7, pair_b(), bar_rules::gap_yin_yang(b1, b2, b3)),
-        17 => row(p, 5, pair_a(), growing_rules::ta_xing(w)),
+        0 => quarter_rules::san_xing_xian(t.th0, quarter_of(deep, w), b1),
+        1 => quarter_rules::ten_mo(quarter_of(deep, w), b1, b2),
+        2 => bar_rules::wu_yun_gai_ding(t.z2, t.th2, w, b1, b2),
+        3 => bar_rules::ci_tou(t.z3, t.th3, b1, b2),
+        4 => growing_rules::san_fa_v20221118(w),
+        5 => { bar_rules::san_fa_v20221115(t.zdf5, b1, b2, b3, back(w, 4), back(w, 5), back(w, 6)) }
+        6 => bar_rules::xing_xian(t.th6, b1, b2, b3),
+        7 => quarter_rules::fen_shou_xian(t.zdf7, quarter_of(deep, w), b1, b2),
+        8 => quarter_rules::zhu_huo_xian(t.th8, t.zf8, quarter_of(deep, w), b1),
+        9 => bar_rules::yun_xian(b1, b2),
+        10 => bar_rules::ping_tou(t.th10, b1, b2),
+        11 => bar_rules::two_crow(b1, b2, b3),
+        12 => bar_rules::three_crow(len, gate, b1, b2, b3),
+        13 => bar_rules::szx(t.th13, b1, b2),
+        14 => bar_rules::san_szx(t.th14, b1, b2, b3, back(w, 4), back(w, 5)),
+        15 => quarter_rules::fan_ji_xian(quarter_extremes(w), b3, b2, b1),
+        16 => bar_rules::gap_yin_yang(b1, b2, b3),
+        17 => growing_rules::ta_xing(w),
         _ => pair_a(),
     }
+}
+
+// Recogniser k over the window w that ends with the judged bar, of which p bars of the history lie up to it.
+pub fn judge(k: u32, t: Thresholds, len: usize, p: usize, w: &[f64], gate: &[f64]) -> Pair
+    ensures { λ r. ⌜ r ≡ judgeOf k t len p (barsOf (now (w .entry))) (barsOf (now (gate .entry))) ⌝ }
+{
+    let full = rule(k, t, len, p >= REACH_BARS, w, gate);
+    let i = k as usize;
+    if i < 18 { row(i, p, full) } else { full }
 }
 
 // The pair of recogniser k at an offset of the lent bars, which are the newest of a history of len bars.
@@ -109,10 +106,10 @@ pub fn pair_at(k: u32, t: Thresholds, len: usize, prices: &[f64], di: usize) -> 
     judge(k, t, len, p, w, gate)
 }
 
-// Every recogniser over the same windows. What several rules need is made once: the newest bars, the extremes of the quarter, and the test
+// Every rule over the same windows. What several rules need is made once: the newest bars, the extremes of the quarter, and the test
 // that 4 and 17 begin with.
-fn pairs(t: Thresholds, len: usize, p: usize, w: &[f64], gate: &[f64]) -> [Pair; 18]
-    ensures { λ r. ⌜ r ≡ pairsOf t len p (barsOf (now (w .entry))) (barsOf (now (gate .entry))) ⌝ }
+fn rules(t: Thresholds, len: usize, deep: bool, w: &[f64], gate: &[f64]) -> [Pair; 18]
+    ensures { λ r. ⌜ r ≡ rulesOf t len deep (barsOf (now (w .entry))) (barsOf (now (gate .entry))) ⌝ }
 {
     let b1 = back(w, 1);
     let b2 = back(w, 2);
@@ -121,37 +118,44 @@ fn pairs(t: Thresholds, len: usize, p: usize, w: &[f64], gate: &[f64]) -> [Pair;
     let b5 = back(w, 5);
     let b6 = back(w, 6);
     let e = quarter_extremes(w);
-    let q = quarter_in(p >= REACH_BARS, e, b1);
+    let q = quarter_in(deep, e, b1);
     let g = growing_rules::growing_pairs(w);
     let methods = g.methods;
     let tower = g.tower;
-    let a = pair_a();
-    let b = pair_b();
     [
-        row(p, 1, a, quarter_rules::san_xing_xian(t.th0, q, b1)),
-        row(p, 2, a, quarter_rules::ten_mo(q, b1, b2)),
-        row(p, 12, b, bar_rules::wu_yun_gai_ding(t.z2, t.th2, w, b1, b2)),
-        row(p, 16, b, bar_rules::ci_tou(t.z3, t.th3, b1, b2)),
-        row(p, 5, a, methods),
-        row(
-            p,
-            6,
-            a,
-            bar_rules::san_fa_v20221115(t.zdf5, b1, b2, b3, b4, b5, b6),
-        ),
-        row(p, 3, b, bar_rules::xing_xian(t.th6, b1, b2, b3)),
-        row(p, 2, a, quarter_rules::fen_shou_xian(t.zdf7, q, b1, b2)),
-        row(p, 1, a, quarter_rules::zhu_huo_xian(t.th8, t.zf8, q, b1)),
-        row(p, 2, b, bar_rules::yun_xian(b1, b2)),
-        row(p, 2, b, bar_rules::ping_tou(t.th10, b1, b2)),
-        row(p, 3, b, bar_rules::two_crow(b1, b2, b3)),
-        row(p, 3, a, bar_rules::three_crow(len, gate, b1, b2, b3)),
-        row(p, 11, a, bar_rules::szx(t.th13, b1, b2)),
-        row(p, 8, b, bar_rules::san_szx(t.th14, b1, b2, b3, b4, b5)),
-        row(p, 21, b, quarter_rules::fan_ji_xian(e, b3, b2, b1)),
-        row(p, 7, b, bar_rules::gap_yin_yang(b1, b2, b3)),
-        row(p, 5, a, tower),
+        quarter_rules::san_xing_xian(t.th0, q, b1),
+        quarter_rules::ten_mo(q, b1, b2),
+        bar_rules::wu_yun_gai_ding(t.z2, t.th2, w, b1, b2),
+        bar_rules::ci_tou(t.z3, t.th3, b1, b2),
+        methods,
+        bar_rules::san_fa_v20221115(t.zdf5, b1, b2, b3, b4, b5, b6),
+        bar_rules::xing_xian(t.th6, b1, b2, b3),
+        quarter_rules::fen_shou_xian(t.zdf7, q, b1, b2),
+        quarter_rules::zhu_huo_xian(t.th8, t.zf8, q, b1),
+        bar_rules::yun_xian(b1, b2),
+        bar_rules::ping_tou(t.th10, b1, b2),
+        bar_rules::two_crow(b1, b2, b3),
+        bar_rules::three_crow(len, gate, b1, b2, b3),
+        bar_rules::szx(t.th13, b1, b2),
+        bar_rules::san_szx(t.th14, b1, b2, b3, b4, b5),
+        quarter_rules::fan_ji_xian(e, b3, b2, b1),
+        bar_rules::gap_yin_yang(b1, b2, b3),
+        tower,
     ]
+}
+
+// Every recogniser over the same windows.
+fn pairs(t: Thresholds, len: usize, p: usize, w: &[f64], gate: &[f64]) -> [Pair; 18]
+    ensures { λ r. ⌜ r ≡ pairsOf t len p (barsOf (now (w .entry))) (barsOf (now (gate .entry))) ⌝ }
+{
+    let full = rules(t, len, p >= REACH_BARS, w, gate);
+    let mut pairs = full;
+    let mut k = 0usize;
+    while k < 18 {
+        pairs[k] = row(k, p, full[k]);
+        k += 1;
+    }
+    pairs
 }
 
 // The pairs of every recogniser at the newest of the lent bars, which are the newest of a history of len bars.

@@ -1,208 +1,23 @@
--- Each arm of the match is a row of the table; what no arm has is past it. Assumes nothing.
+-- Below its p the short pair of its row, else its rule; past the table there is no such p. Assumes nothing.
 use mathlib.Core.Path.{_∙_, sym}
+use borrow.Author.Needs.{needs}
 use Rattle.measures.specs.Bar.{barsOf}
-use Rattle.recognisers.specs.Table.{judgeOf, rowOf, rows}
-use Rattle.recognisers.proofs.TableLaws.{judge-past, apart-from}
+use Rattle.recognisers.specs.Table.{judgeOf}
+use Rattle.recognisers.proofs.TableLaws.{judge-past}
 use Rattle.recognisers.proofs.table.judge.Statement.{statement}
 use Rattle.recognisers.proofs.table.judge.Tie as tie
 
+row-requires : tie.Need-row-requires
+row-requires c κs = search needs
+
 returns : tie.Need-returns
-unfolding judgeOf rowOf rows
-returns c =
-    let read = c .before .before .before .before .before in
-    simp (c .row .ensures, c .before .san-xing-xian .ensures, c .before .before .quarter-of .ensures, c .before .before .before .pair-a .ensures, c .before .before .before .before .match .keys1, read .before .before .back .ensures)
+unfolding judgeOf
+returns c = simp (c .row .ensures, c .before .before .rule .ensures)
 
 returns-2 : tie.Need-returns-2
-unfolding judgeOf rowOf rows
 returns-2 c =
-    let read = c .before .before .before .before .before in
-    simp (c .row2 .ensures, c .before .ten-mo .ensures, c .before .before .quarter-of2 .ensures, c .before .before .before .pair-a2 .ensures, c .before .before .before .before .match .keys2, read .before .back2 .ensures, read .before .before .back .ensures)
-
-returns-3 : tie.Need-returns-3
-unfolding judgeOf rowOf rows
-returns-3 c =
-    let read = c .before .before .before .before in
-    simp (c .row3 .ensures, c .before .wu-yun-gai-ding .ensures, c .before .before .pair-b .ensures, c .before .before .before .match .keys3, read .before .back2 .ensures, read .before .before .back .ensures)
-
-returns-4 : tie.Need-returns-4
-unfolding judgeOf rowOf rows
-returns-4 c =
-    let read = c .before .before .before .before in
-    simp (c .row4 .ensures, c .before .ci-tou .ensures, c .before .before .pair-b2 .ensures, c .before .before .before .match .keys4, read .before .back2 .ensures, read .before .before .back .ensures)
-
-returns-5 : tie.Need-returns-5
-unfolding judgeOf rowOf rows
-returns-5 c = simp (c .row5 .ensures, c .before .san-fa-v20221118 .ensures, c .before .before .pair-a3 .ensures, c .before .before .before .match .keys5)
-
-returns-6 : tie.Need-returns-6
-unfolding judgeOf rowOf rows
-returns-6 c =
-    let read = c .before .before .before .before .before .before .before in
-    simp (c .row6 .ensures, c .before .san-fa-v20221115 .ensures, c .before .before .back6 .ensures, c .before .before .before .back5 .ensures, c .before .before .before .before .back4 .ensures, c .before .before .before .before .before .pair-a4 .ensures, c .before .before .before .before .before .before .match .keys6, read .back3 .ensures, read .before .back2 .ensures, read .before .before .back .ensures)
-
-returns-7 : tie.Need-returns-7
-unfolding judgeOf rowOf rows
-returns-7 c =
-    let read = c .before .before .before .before in
-    simp (c .row7 .ensures, c .before .xing-xian .ensures, c .before .before .pair-b3 .ensures, c .before .before .before .match .keys7, read .back3 .ensures, read .before .back2 .ensures, read .before .before .back .ensures)
-
-returns-8 : tie.Need-returns-8
-unfolding judgeOf rowOf rows
-returns-8 c =
-    let read = c .before .before .before .before .before in
-    simp (c .row8 .ensures, c .before .fen-shou-xian .ensures, c .before .before .quarter-of3 .ensures, c .before .before .before .pair-a5 .ensures, c .before .before .before .before .match .keys8, read .before .back2 .ensures, read .before .before .back .ensures)
-
-returns-9 : tie.Need-returns-9
-unfolding judgeOf rowOf rows
-returns-9 c =
-    let read = c .before .before .before .before .before in
-    simp (c .row9 .ensures, c .before .zhu-huo-xian .ensures, c .before .before .quarter-of4 .ensures, c .before .before .before .pair-a6 .ensures, c .before .before .before .before .match .keys9, read .before .before .back .ensures)
-
-returns-10 : tie.Need-returns-10
-unfolding judgeOf rowOf rows
-returns-10 c =
-    let read = c .before .before .before .before in
-    simp (c .row10 .ensures, c .before .yun-xian .ensures, c .before .before .pair-b4 .ensures, c .before .before .before .match .keys10, read .before .back2 .ensures, read .before .before .back .ensures)
-
-returns-11 : tie.Need-returns-11
-unfolding judgeOf rowOf rows
-returns-11 c =
-    let read = c .before .before .before .before in
-    simp (c .row11 .ensures, c .before .ping-tou .ensures, c .before .before .pair-b5 .ensures, c .before .before .before .match .keys11, read .before .back2 .ensures, read .before .before .back .ensures)
-
-returns-12 : tie.Need-returns-12
-unfolding judgeOf rowOf rows
-returns-12 c =
-    let read = c .before .before .before .before in
-    simp (c .row12 .ensures, c .before .two-crow .ensures, c .before .before .pair-b6 .ensures, c .before .before .before .match .keys12, read .back3 .ensures, read .before .back2 .ensures, read .before .before .back .ensures)
-
-returns-13 : tie.Need-returns-13
-unfolding judgeOf rowOf rows
-returns-13 c =
-    let read = c .before .before .before .before in
-    simp (c .row13 .ensures, c .before .three-crow .ensures, c .before .before .pair-a7 .ensures, c .before .before .before .match .keys13, read .back3 .ensures, read .before .back2 .ensures, read .before .before .back .ensures)
-
-returns-14 : tie.Need-returns-14
-unfolding judgeOf rowOf rows
-returns-14 c =
-    let read = c .before .before .before .before in
-    simp (c .row14 .ensures, c .before .szx .ensures, c .before .before .pair-a8 .ensures, c .before .before .before .match .keys14, read .before .back2 .ensures, read .before .before .back .ensures)
-
-returns-15 : tie.Need-returns-15
-unfolding judgeOf rowOf rows
-returns-15 c =
-    let read = c .before .before .before .before .before .before in
-    simp (c .row15 .ensures, c .before .san-szx .ensures, c .before .before .back8 .ensures, c .before .before .before .back7 .ensures, c .before .before .before .before .pair-b7 .ensures, c .before .before .before .before .before .match .keys15, read .back3 .ensures, read .before .back2 .ensures, read .before .before .back .ensures)
-
-returns-16 : tie.Need-returns-16
-unfolding judgeOf rowOf rows
-returns-16 c =
-    let read = c .before .before .before .before .before in
-    simp (c .row16 .ensures, c .before .fan-ji-xian .ensures, c .before .before .quarter-extremes .ensures, c .before .before .before .pair-b8 .ensures, c .before .before .before .before .match .keys16, read .back3 .ensures, read .before .back2 .ensures, read .before .before .back .ensures)
-
-returns-17 : tie.Need-returns-17
-unfolding judgeOf rowOf rows
-returns-17 c =
-    let read = c .before .before .before .before in
-    simp (c .row17 .ensures, c .before .gap-yin-yang .ensures, c .before .before .pair-b9 .ensures, c .before .before .before .match .keys17, read .back3 .ensures, read .before .back2 .ensures, read .before .before .back .ensures)
-
-returns-18 : tie.Need-returns-18
-unfolding judgeOf rowOf rows
-returns-18 c = simp (c .row18 .ensures, c .before .ta-xing .ensures, c .before .before .pair-a9 .ensures, c .before .before .before .match .keys18)
-
-returns-19 : tie.Need-returns-19
-returns-19 c =
-    let args = c .before .before .before .before .before .before .before .args in
-    c .pair-a10 .ensures ∙ sym (judge-past (args .k) (args .t) (args .len) (args .p) (barsOf (args .w .now)) (barsOf (args .gate .now)) (apart-from 18 (args .k) (c .before .match .rest)))
+    let args = c .before .before .before .before .args in
+    c .before .rule .ensures ∙ sym (judge-past (args .k) (args .t) (args .len) (args .p) (barsOf (args .w .now)) (barsOf (args .gate .now)) (c .if1 .left))
 
 pub judge-spec : {M : Type 1} → statement M
-judge-spec =
-    tie.close
-    (tie.spec
-    (λ c κs. tt)
-    (λ c κs. tt)
-    (λ c κs. tt)
-    (λ c κs. tt)
-    (λ c κs. tt)
-    (λ c κs. tt)
-    (λ c κs. tt)
-    (λ c κs. tt)
-    (λ c κs. tt)
-    (λ c κs. tt)
-    (λ c κs. tt)
-    (λ c κs. tt)
-    (λ c κs. tt)
-    (λ c κs. tt)
-    (λ c κs. tt)
-    (λ c κs. tt)
-    (λ c κs. tt)
-    (λ c κs. tt)
-    (λ c κs. tt)
-    (λ c κs. tt)
-    (λ c κs. tt)
-    (λ c κs. tt)
-    (λ c κs. tt)
-    (λ c κs. tt)
-    (λ c κs. tt)
-    (λ c κs. tt)
-    (λ c κs. tt)
-    (λ c κs. tt)
-    (λ c κs. tt)
-    (λ c κs. tt)
-    (λ c κs. tt)
-    (λ c κs. tt)
-    (λ c κs. tt)
-    (λ c κs. tt)
-    (λ c κs. tt)
-    (λ c κs. tt)
-    (λ c κs. tt)
-    (λ c κs. tt)
-    (λ c κs. tt)
-    (λ c κs. tt)
-    (λ c κs. tt)
-    (λ c κs. tt)
-    (λ c κs. tt)
-    (λ c κs. tt)
-    (λ c κs. tt)
-    (λ c κs. tt)
-    (λ c κs. tt)
-    (λ c κs. tt)
-    (λ c κs. tt)
-    (λ c κs. tt)
-    (λ c κs. tt)
-    (λ c κs. tt)
-    (λ c κs. tt)
-    (λ c κs. tt)
-    (λ c κs. tt)
-    (λ c κs. tt)
-    (λ c κs. tt)
-    (λ c κs. tt)
-    (λ c κs. tt)
-    (λ c κs. tt)
-    (λ c κs. tt)
-    (λ c κs. tt)
-    (λ c κs. tt)
-    (λ c κs. tt)
-    (λ c κs. tt)
-    (λ c κs. tt)
-    (λ c κs. tt)
-    (λ c κs. tt)
-    returns
-    returns-2
-    returns-3
-    returns-4
-    returns-5
-    returns-6
-    returns-7
-    returns-8
-    returns-9
-    returns-10
-    returns-11
-    returns-12
-    returns-13
-    returns-14
-    returns-15
-    returns-16
-    returns-17
-    returns-18
-    returns-19)
+judge-spec = tie.close (tie.spec (λ c κs. tt) row-requires returns returns-2)
