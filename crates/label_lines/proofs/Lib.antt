@@ -1,0 +1,6 @@
+-- What is printed, whatever the reads bring, is what the lines of the input print (Whole), and laws that the proofs of several functions
+-- cite.
+pub mod NumeralLaws
+pub mod OutputLaws
+pub mod SessionLaws
+pub mod Whole

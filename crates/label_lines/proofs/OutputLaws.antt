@@ -1,0 +1,84 @@
+-- The lines of a sheet one recogniser at a time, and how long a line is at most. Assumes nothing.
+use Prim.Native.Nat.{ℕ, suc, _+_, _*_, _≤_, _<_}
+use mathlib.Core.Bool.{Bool, true, false, cond}
+use mathlib.Core.List.{List, [], _∷_, _++_}
+use mathlib.Core.Path.{_≡_, _∙_}
+use native.Mathlib.Omega.{arith}
+use lib.Dec.{eqb}
+use lib.ListN.{length, getD, drop, length-append, drop-of-length-le}
+use lib.Seq.{drop-cons}
+use Rattle.bar_box.specs.Sheet.{overlay}
+use Rattle.bar_box.proofs.Overlay.{overlay-more}
+use Rattle.text.specs.LabelText.{bytesOf}
+use Rattle.text.specs.LineText.{comma}
+use Rattle.text.specs.Lines.{lineFeed}
+use Rattle.text.proofs.LabelLaws.{short}
+use Rattle.label_lines.specs.Output.{numeral, field, rowLine, rowLines}
+use Rattle.label_lines.proofs.NumeralLaws.{numeral-short}
+
+-- ---- bytes written behind bytes
+
+-- the bytes xs were written over s from a place on: what it is then, and the place behind them
+abbrev pub Written : List ℕ → ℕ → List ℕ → List ℕ → ℕ → Type 0
+Written s at xs t i = (i ≡ at + length xs) × (t ≡ overlay s at xs)
+
+pub written-on : (s : List ℕ) (at : ℕ) (xs t : List ℕ) (i : ℕ) (ys u : List ℕ) (j : ℕ) → i + length ys ≤ length s
+    → Written s at xs t i → Written t i ys u j → Written s at (xs ++ ys) u j
+written-on s at xs t i ys u j le a b =
+    let len : length (xs ++ ys) ≡ length xs + length ys = length-append xs ys in
+    let same : u ≡ overlay (overlay s at xs) i ys = rw (a .1) at (b .1) in
+    (omega (arith, a .0, b .0), same ∙ overlay-more s at xs ys i (omega (arith, a .0)) le)
+
+-- ---- how long a line is at most
+
+pub number-most : (n end : ℕ) → length (field (numeral n) end) ≤ 21
+number-most n end = rw (length-append (numeral n) (end ∷ [])) (omega (arith, numeral-short n))
+
+pub label-most : (code end : ℕ) → length (field (bytesOf code) end) ≤ 16
+label-most code end = rw (length-append (bytesOf code) (end ∷ [])) (omega (arith, short code))
+
+-- the line of a recogniser, if it has one
+abbrev pub pairLine : ℕ → ℕ → ℕ → ℕ → List ℕ
+pairLine ordinal k v1 v2 = cond (eqb v1 0) [] (rowLine ordinal k v1 v2)
+
+joined : (a b c d : List ℕ) → length (a ++ b ++ c ++ d) ≡ length a + length b + length c + length d
+joined a b c d = rw (length-append (a ++ b ++ c) d, length-append (a ++ b) c, length-append a b)
+
+row-most : (ordinal k v1 v2 : ℕ) → length (rowLine ordinal k v1 v2) ≤ 74
+unfolding rowLine
+row-most ordinal k v1 v2 =
+    let a = field (numeral ordinal) comma in
+    let b = field (numeral k) comma in
+    let c = field (bytesOf v1) comma in
+    let d = field (bytesOf v2) lineFeed in
+    omega (arith, joined a b c d, number-most ordinal comma, number-most k comma, label-most v1 comma, label-most v2 lineFeed)
+
+pub pair-most : (ordinal k v1 v2 : ℕ) → length (pairLine ordinal k v1 v2) ≤ 74
+pair-most ordinal k v1 v2 = go (eqb v1 0)
+  where
+    go : (t : Bool) → length (cond t [] (rowLine ordinal k v1 v2)) ≤ 74
+    go true = omega arith
+    go false = row-most ordinal k v1 v2
+
+-- ---- the lines of a sheet
+
+pub rows-most : (ordinal k : ℕ) (codes : List ℕ) → length (rowLines ordinal k codes) ≤ 37 * length codes
+unfolding rowLines
+rows-most ordinal k [] = omega arith
+rows-most ordinal k (v1 ∷ []) = omega arith
+rows-most ordinal k (v1 ∷ v2 ∷ codes) =
+    rw (length-append (pairLine ordinal k v1 v2) (rowLines ordinal (k + 1) codes)) (omega (arith, pair-most ordinal k v1 v2, rows-most ordinal (k + 1) codes))
+
+module _ (ordinal k : ℕ) (sheet : List ℕ) where
+  pub rows-end : length sheet ≤ 2 * k → rowLines ordinal k (drop (2 * k) sheet) ≡ []
+  unfolding rowLines
+  rows-end h = rw (drop-of-length-le sheet h)
+
+  pub rows-next : 2 * k + 1 < length sheet
+      → rowLines ordinal k (drop (2 * k) sheet)
+      ≡ pairLine ordinal k (getD sheet (2 * k) 0) (getD sheet (2 * k + 1) 0) ++ rowLines ordinal (k + 1) (drop (2 * (k + 1)) sheet)
+  unfolding rowLines
+  rows-next h =
+      let second : suc (2 * k) ≡ 2 * k + 1 = omega arith in
+      let third : suc (2 * k + 1) ≡ 2 * (k + 1) = omega arith in
+      rw (drop-cons sheet (2 * k) 0 (omega arith), second, drop-cons sheet (2 * k + 1) 0 h, third)

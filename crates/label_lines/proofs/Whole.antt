@@ -1,0 +1,80 @@
+-- What the bytes of an input print, and its end, is what its lines print, however it is cut into reads. Assumes nothing.
+use Prim.Native.Nat.{ℕ, suc, _≤_}
+use mathlib.Core.Bool.{Bool, true, false, cond}
+use mathlib.Core.List.{List, [], _∷_, _++_, append-assoc, append-nil}
+use mathlib.Core.Path.{_≡_, refl, sym, ap, _∙_}
+use native.Mathlib.Omega.{arith}
+use borrow.Author.Tests.{eqb-true, ne-eqb}
+use lib.Dec.{eqb}
+use lib.ListN.{length, take}
+use Rattle.recognisers.specs.Threshold.{standardSet}
+use Rattle.bar_box.specs.declared.boxes.BarBox.{BarBox}
+use Rattle.bar_box.specs.Box.{freshBox}
+use Rattle.text.specs.Lines.{lineFeed, linesFrom, keptLine}
+use Rattle.text.proofs.LineLaws.{lines-end, lines-last, lines-feed, lines-byte}
+use Rattle.label_lines.specs.Output.{Step, stepOf, printedOf, outputOf}
+use Rattle.label_lines.specs.Session.{State, freshState, ended, grown, byteLeaves, bytePrints, leaves, prints, endPrints, readsPrint, joined}
+use Rattle.label_lines.proofs.SessionLaws.{step-kept, leaves-append, prints-append, stopped-leaves, stopped-prints, kept-kept, byte-grows, byte-ends, byte-quiet, feed-prints}
+
+-- what bytes print, and then the input's end
+abbrev allPrint : State → List ℕ → List ℕ
+allPrint s input = prints s input ++ endPrints (leaves s input)
+
+-- one byte more
+byte-first : (s : State) (b : ℕ) (rest : List ℕ) → allPrint s (b ∷ rest) ≡ bytePrints s b ++ allPrint (byteLeaves s b) rest
+unfolding prints leaves
+byte-first s b rest = append-assoc (bytePrints s b) (prints (byteLeaves s b) rest) (endPrints (leaves (byteLeaves s b) rest))
+
+-- nothing follows a refusal
+stopped-all : (s : State) (rest : List ℕ) → s .stopped ≡ true → allPrint s rest ≡ []
+unfolding endPrints
+stopped-all s rest e = rw (stopped-prints s rest e, stopped-leaves s rest e, e)
+
+-- the input's end, where the line is all of full
+at-end : (s : State) (full : List ℕ) → s .stopped ≡ false → s .line ≡ keptLine full → endPrints s ≡ printedOf (s .box) (linesFrom full [])
+unfolding endPrints printedOf
+at-end s [] going e = rw (going, e, lines-end)
+at-end s (b ∷ bs) going e =
+    let some : eqb (length (keptLine (b ∷ bs))) 0 ≡ false = ne-eqb (length (keptLine (b ∷ bs))) 0 (λ none. omega arith) in
+    rw (going, e, some, lines-last b bs, step-kept (s .box) (b ∷ bs)) (last (stepOf (s .box) (b ∷ bs) .stops))
+  where
+    last : (t : Bool) → stepOf (s .box) (b ∷ bs) .printed ≡ stepOf (s .box) (b ∷ bs) .printed ++ cond t [] []
+    last true = rw append-nil
+    last false = rw append-nil
+
+-- what the rest prints after a line's end, where it stops or not
+module _ (s : State) (rest : List ℕ)
+    (on : (s' : State) (full : List ℕ) → s' .stopped ≡ false → s' .line ≡ keptLine full → allPrint s' rest ≡ printedOf (s' .box) (linesFrom full rest)) where
+  after : (t : Bool) → stepOf (s .box) (s .line) .stops ≡ t
+      → allPrint (ended s) rest ≡ cond t [] (printedOf (stepOf (s .box) (s .line) .after) (linesFrom [] rest))
+  after true stops = stopped-all (ended s) rest stops
+  after false stops = on (ended s) [] stops refl
+
+  by-byte : (full : List ℕ) (b : ℕ) (t : Bool) → eqb b lineFeed ≡ t → s .stopped ≡ false → s .line ≡ keptLine full
+      → bytePrints s b ++ allPrint (byteLeaves s b) rest ≡ printedOf (s .box) (linesFrom full (b ∷ rest))
+  unfolding printedOf
+  by-byte full b true same going e =
+      let feed : b ≡ lineFeed = eqb-true b lineFeed same in
+      let kept : stepOf (s .box) (s .line) ≡ stepOf (s .box) full = rw e (step-kept (s .box) full) in
+      rw (feed, feed-prints s going, byte-ends s going, lines-feed full rest, ← kept, after (stepOf (s .box) (s .line) .stops) refl)
+  by-byte full b false plain going e =
+      rw (byte-quiet s going b plain, byte-grows s going b plain, lines-byte full b rest plain) (on (grown s (b ∷ [])) (full ++ (b ∷ [])) going (rw e (kept-kept full (b ∷ []))))
+
+pub from-state : (s : State) (full input : List ℕ) → s .stopped ≡ false → s .line ≡ keptLine full → allPrint s input ≡ printedOf (s .box) (linesFrom full input)
+unfolding prints leaves
+from-state s full [] going e = at-end s full going e
+from-state s full (b ∷ rest) going e = byte-first s b rest ∙ by-byte s rest (λ s' full' g e'. from-state s' full' rest g e') full b (eqb b lineFeed) refl going e
+
+-- in one read
+pub whole : (input : List ℕ) → allPrint freshState input ≡ outputOf input
+whole input = from-state freshState [] input refl refl
+
+-- in several: the same as in one
+pub reads-join : (s : State) (reads : List (List ℕ)) → readsPrint s reads ≡ allPrint s (joined reads)
+unfolding readsPrint joined prints leaves
+reads-join s [] = refl
+reads-join s (bytes ∷ reads) = rw (prints-append s bytes (joined reads), leaves-append s bytes (joined reads), append-assoc) (ap (λ (l : List ℕ). prints s bytes ++ l) (reads-join (leaves s bytes) reads))
+
+-- the theorem of the program: however its input is cut into reads, it prints what the input's lines print
+pub reads-print : (reads : List (List ℕ)) → readsPrint freshState reads ≡ outputOf (joined reads)
+reads-print reads = reads-join freshState reads ∙ whole (joined reads)

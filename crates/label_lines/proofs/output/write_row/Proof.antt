@@ -1,0 +1,62 @@
+-- Four fields, each behind the one before. Assumes nothing.
+use mathlib.Core.List.{_++_}
+use native.Mathlib.Omega.{arith}
+use borrow.Author.Needs.{needs}
+use Rattle.text.specs.LabelText.{bytesOf}
+use Rattle.text.specs.LineText.{comma}
+use Rattle.text.specs.Lines.{lineFeed}
+use Rattle.label_lines.specs.Output.{numeral, field, rowLine}
+use Rattle.label_lines.proofs.OutputLaws.{number-most, label-most, written-on}
+use Rattle.label_lines.proofs.output.write_row.Statement.{statement}
+use Rattle.label_lines.proofs.output.write_row.Tie as tie
+
+write-number-requires : tie.Need-write-number-requires
+write-number-requires c κs = search needs
+
+write-number-requires-2 : tie.Need-write-number-requires-2
+write-number-requires-2 c κs = let args = c .before .before .before .before .before .before .args in omega (arith, number-most (args .ordinal) comma)
+
+write-label-requires : tie.Need-write-label-requires
+write-label-requires c κs =
+    let args = c .before .before .before .before .before .before .before .before .before .before .args in
+    omega (arith, number-most (args .ordinal) comma, number-most (args .k) comma)
+
+write-label-requires-2 : tie.Need-write-label-requires-2
+write-label-requires-2 c κs =
+    let args = c .before .before .before .before .before .before .before .before .before .before .before .before .before .before .args in
+    omega (arith, number-most (args .ordinal) comma, number-most (args .k) comma, label-most (args .v1) comma)
+
+same-length : tie.Need-same-length
+same-length c = search needs
+
+returns : tie.Need-returns
+unfolding rowLine
+returns c =
+    let fourth = c .before .before in
+    let third = fourth .before .before .before .before in
+    let second = third .before .before .before .before in
+    let first = second .before .before .before .before in
+    let args = first .before .before .before .args in
+    let s = args .out .now in
+    let x = field (numeral (args .ordinal)) comma in
+    let y = field (numeral (args .k)) comma in
+    let z = field (bytesOf (args .v1)) comma in
+    let w = field (bytesOf (args .v2)) lineFeed in
+    let x-most = number-most (args .ordinal) comma in
+    let y-most = number-most (args .k) comma in
+    let z-most = label-most (args .v1) comma in
+    let w-most = label-most (args .v2) lineFeed in
+    let two = written-on s _ x _ _ y _ _ (omega (arith, x-most, y-most)) (first .write-number .ensures) (second .write-number2 .ensures) in
+    let three = written-on s _ (x ++ y) _ _ z _ _ (omega (arith, x-most, y-most, z-most)) two (third .write-label .ensures) in
+    written-on s _ (x ++ y ++ z) _ _ w _ _ (omega (arith, x-most, y-most, z-most, w-most)) three (fourth .write-label2 .ensures)
+
+pub write-row-spec : {M : Type 1} → statement M
+write-row-spec =
+    tie.close
+    (tie.spec
+    write-number-requires
+    write-number-requires-2
+    write-label-requires
+    write-label-requires-2
+    same-length
+    returns)

@@ -1,0 +1,84 @@
+use Prim.Native.Nat.{_≤_, _<_}
+use mathlib.Core.Path.{_≡_, sym, _∙_}
+use native.Mathlib.Omega.{arith}
+use borrow.Author.Needs.{needs}
+use lib.ListN.{length}
+use lib.Seq.{length-take-le}
+use Rattle.bar_box.proofs.Overlay.{overlay-none}
+use Rattle.label_lines.specs.Session.{stateOf}
+use Rattle.label_lines.proofs.SessionLaws.{line-used, rest-used}
+use Rattle.label_lines.proofs.session.advance.Statement.{statement}
+use Rattle.label_lines.proofs.session.advance.Tie as tie
+use Rattle.label_lines.proofs.session.advance.Reads as reads
+use Rattle.label_lines.proofs.session.advance.Lts as lts
+use Rattle.label_lines.proofs.session.step.Reads as step-reads
+use Rattle.text.proofs.lines.begin.Reads as begin-reads
+use Rattle.text.proofs.lines.extend.Reads as extend-reads
+use Rattle.text.proofs.lines.piece_end.Reads as piece-end-reads
+
+-- src/session.rt:118:9
+piece-end-requires : tie.Need-piece-end-requires
+piece-end-requires c κs = search needs
+
+-- src/session.rt:121:37
+slice-aggregate-extend : tie.Need-slice-aggregate-extend
+slice-aggregate-extend c = sym (length-take-le _ _ (c .before .before .before .piece-end .ensures .1))
+
+-- src/session.rt:121:9
+extend-requires : tie.Need-extend-requires
+extend-requires c κs = search needs
+
+-- src/session.rt:123:13
+step-requires : tie.Need-step-requires
+step-requires c κs = search needs
+
+-- src/session.rt:127:23
+begin-requires : tie.Need-begin-requires
+begin-requires c κs = search needs
+
+-- src/session.rt:131:19
+add-t20 : tie.Need-add-t20
+add-t20 c = search needs
+
+-- src/session.rt:114:1
+same-length : tie.Need-same-length
+same-length c = search needs
+
+-- src/session.rt:114:1
+returns : tie.Need-returns
+returns c =
+    let extended = c .before .before .before .before .before .before .before in
+    let found = extended .before .before .before .before in
+    let args = found .before .before .before .args in
+    let stepped = c .before .before .before .before .step .ensures in
+    let chunk = args .chunk .now in
+    let inside : found .piece-end .result < length chunk = c .before .before .before .before .before .before .if1 .taken in
+    let used = line-used (stateOf (args .st)) chunk (found .piece-end .result) (found .before .before .before .pre .0) (found .piece-end .ensures .0) inside in
+    let line = extended .extend .ensures in
+    (omega arith, omega (arith, inside), rw (used .0, c .begin .ensures, stepped .0, stepped .1, line), stepped .2, rw (used .1, ← line) (stepped .3), rw (used .1, ← line) (stepped .4))
+
+-- src/session.rt:114:1
+returns-2 : tie.Need-returns-2
+returns-2 c =
+    let found = c .before .before .before .before .before in
+    let start = found .before .before .before in
+    let args = start .args in
+    let chunk = args .chunk .now in
+    let all : length chunk ≤ found .piece-end .result = c .if1 .left in
+    let some : 1 ≤ found .piece-end .result = omega (arith, start .pre .1) in
+    let used = rest-used (stateOf (args .st)) chunk (found .piece-end .result) (start .pre .0) (found .piece-end .ensures .0) some (found .piece-end .ensures .1) in
+    (some, found .piece-end .ensures .1, rw (used .0, c .before .extend .ensures, start .pre .0), omega arith, rw (used .1) (omega arith), rw (used .1) (sym (overlay-none (args .out .now) (args .at))))
+
+pub advance-spec : {M : Type 1} → statement M
+advance-spec =
+    tie.close
+    (tie.spec
+    piece-end-requires
+    slice-aggregate-extend
+    extend-requires
+    step-requires
+    begin-requires
+    add-t20
+    same-length
+    returns
+    returns-2)

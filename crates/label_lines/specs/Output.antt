@@ -1,0 +1,98 @@
+-- "The labels program": what it prints for an input.
+use Prim.Native.Nat.{ℕ, zero, suc, _+_, _/_}
+use mathlib.Core.Bool.{Bool, true, false, cond}
+use mathlib.Core.List.{List, [], _∷_, _++_}
+use lib.Dec.{ltb, eqb}
+use lib.ListN.{replicate}
+use lib.Ieee.{Float}
+use Rattle.io.specs.Digits.{digits}
+use Rattle.measures.specs.declared.bars.Bar.{Bar}
+use Rattle.recognisers.specs.declared.call.Refusal.{Refusal}
+use Rattle.recognisers.specs.declared.call.Verdict.{Verdict}
+use Rattle.recognisers.specs.declared.call.Verdict.the-variants.{Accepted, Denied}
+use Rattle.recognisers.specs.Number.{rowBytes}
+use Rattle.recognisers.specs.Refusal.{refusalNumber}
+use Rattle.recognisers.specs.Threshold.{standardSet}
+use Rattle.bar_box.specs.declared.boxes.BarBox.{BarBox}
+use Rattle.bar_box.specs.declared.boxes.Outcome.{Outcome}
+use Rattle.bar_box.specs.Box.{freshBox, fedOf, sheetOf}
+use Rattle.text.specs.declared.line_text.Line.{Line}
+use Rattle.text.specs.declared.line_text.Line.the-variants.{Prices, BadShape, BadPrice}
+use Rattle.text.specs.LabelText.{bytesOf}
+use Rattle.text.specs.LineText.{comma, lineOf, verdictOf}
+use Rattle.text.specs.Lines.{lineFeed, linesOf}
+
+-- ---- lines of output
+
+-- how many decimal digits a number has, of which there are at most one more than the first argument
+unfoldable pub placesOf : ℕ → ℕ → ℕ
+placesOf zero n = 1
+placesOf (suc most) n = cond (ltb n 10) 1 (suc (placesOf most (n / 10)))
+
+-- a number below 2 to the power of 64 in decimal
+unfoldable pub numeral : ℕ → List ℕ
+numeral n = digits 10 (placesOf 19 n) n
+
+-- bytes with the one that ends them
+abbrev pub field : List ℕ → ℕ → List ℕ
+field s end = s ++ end ∷ []
+
+-- the bar's ordinal, recogniser, v1, v2
+unfoldable pub rowLine : ℕ → ℕ → ℕ → ℕ → List ℕ
+rowLine ordinal k v1 v2 = field (numeral ordinal) comma ++ field (numeral k) comma ++ field (bytesOf v1) comma ++ field (bytesOf v2) lineFeed
+
+-- the lines of a bar whose sheet row has these codes, for the recognisers from k on: one for each whose v1 isn't 其他
+unfoldable pub rowLines : ℕ → ℕ → List ℕ → List ℕ
+rowLines ordinal k [] = []
+rowLines ordinal k (v1 ∷ []) = []
+rowLines ordinal k (v1 ∷ v2 ∷ codes) = cond (eqb v1 0) [] (rowLine ordinal k v1 v2) ++ rowLines ordinal (k + 1) codes
+
+-- the bytes of the word refused
+abbrev pub refusedWord : List ℕ
+refusedWord = 114 ∷ 101 ∷ 102 ∷ 117 ∷ 115 ∷ 101 ∷ 100 ∷ []
+
+-- a refusal prints a line such as refused,3,8: the line's ordinal, the refusal
+unfoldable pub refusalLine : ℕ → Refusal → List ℕ
+refusalLine ordinal r = field refusedWord comma ++ field (numeral ordinal) comma ++ field (numeral (refusalNumber r)) lineFeed
+
+-- ---- a line of input
+
+-- what a line prints, the box after it, and whether the program stops there
+pub record Step : Type 0 where
+  pub printed : List ℕ
+  pub after : BarBox
+  pub stops : Bool
+
+-- the four prices of a bar, as a feed is lent them
+abbrev pub pricesOf : Bar → List Float
+pricesOf b = b .«open» ∷ b .close ∷ b .high ∷ b .low ∷ []
+
+-- an accepted bar prints its rows, a refused one the refusal, and stops; the ordinal is one more than the bars before
+abbrev pub judgedOf : Verdict → BarBox → List ℕ → BarBox → Step
+judgedOf Accepted b sheet after = record { printed = rowLines (b .count + 1) 0 sheet; after = after; stops = false }
+judgedOf (Denied r) b sheet after = record { printed = refusalLine (b .count + 1) r; after = b; stops = true }
+
+-- a bar is fed by itself, with a sheet for its row
+unfoldable pub fedStep : BarBox → Bar → Step
+fedStep b bar =
+    judgedOf (fedOf b (pricesOf bar) rowBytes .verdict) b (sheetOf b (pricesOf bar) (replicate rowBytes 0)) (fedOf b (pricesOf bar) rowBytes .after)
+
+-- a line is read as text first, then fed as one bar
+abbrev pub readStep : BarBox → Line → Step
+readStep b (Prices bar) = fedStep b bar
+readStep b BadShape = judgedOf (verdictOf BadShape) b [] b
+readStep b (BadPrice place) = judgedOf (verdictOf (BadPrice place)) b [] b
+
+unfoldable pub stepOf : BarBox → List ℕ → Step
+stepOf b line = readStep b (lineOf line)
+
+-- ---- the program
+
+-- what lines print, one after the other, up to the first that stops
+unfoldable pub printedOf : BarBox → List (List ℕ) → List ℕ
+printedOf b [] = []
+printedOf b (line ∷ lines) = stepOf b line .printed ++ cond (stepOf b line .stops) [] (printedOf (stepOf b line .after) lines)
+
+-- what an input prints, with the standard set
+abbrev pub outputOf : List ℕ → List ℕ
+outputOf input = printedOf (freshBox standardSet) (linesOf input)

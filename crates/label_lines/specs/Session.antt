@@ -1,0 +1,63 @@
+-- The labels program, byte by byte, as the code has it: what it holds between two reads, and what it prints for the bytes of one.
+-- That this is what the input's lines print is proved in proofs/Whole.antt.
+use Prim.Native.Nat.{ℕ}
+use mathlib.Core.Bool.{Bool, false, cond, _||_}
+use mathlib.Core.List.{List, [], _∷_, _++_}
+use lib.Dec.{eqb}
+use lib.ListN.{length}
+use Rattle.recognisers.specs.Threshold.{standardSet}
+use Rattle.bar_box.specs.declared.boxes.BarBox.{BarBox}
+use Rattle.bar_box.specs.Box.{freshBox}
+use Rattle.text.specs.Lines.{lineFeed, keptLine, content}
+use Rattle.label_lines.specs.declared.session.Session.{Session}
+use Rattle.label_lines.specs.Output.{stepOf}
+
+-- the line that has begun, of which the first bytes are kept, the box, and whether a line was refused
+pub record State : Type 0 where
+  pub line : List ℕ
+  pub box : BarBox
+  pub stopped : Bool
+
+abbrev pub stateOf : Session → State
+stateOf s = record { line = content (s .line); box = s .held; stopped = s .stopped }
+
+abbrev pub freshState : State
+freshState = record { line = []; box = freshBox standardSet; stopped = false }
+
+-- the line has ended
+abbrev pub ended : State → State
+ended s = record { line = []; box = stepOf (s .box) (s .line) .after; stopped = stepOf (s .box) (s .line) .stops }
+
+-- the line has bytes more
+abbrev pub grown : State → List ℕ → State
+grown s bytes = record { line = keptLine (s .line ++ bytes); box = s .box; stopped = s .stopped }
+
+-- what a byte leaves, and what it prints: nothing once a line was refused
+unfoldable pub byteLeaves : State → ℕ → State
+byteLeaves s b = cond (s .stopped) s (cond (eqb b lineFeed) (ended s) (grown s (b ∷ [])))
+
+unfoldable pub bytePrints : State → ℕ → List ℕ
+bytePrints s b = cond (s .stopped) [] (cond (eqb b lineFeed) (stepOf (s .box) (s .line) .printed) [])
+
+-- the same of a run of bytes
+unfoldable pub leaves : State → List ℕ → State
+leaves s [] = s
+leaves s (b ∷ bytes) = leaves (byteLeaves s b) bytes
+
+unfoldable pub prints : State → List ℕ → List ℕ
+prints s [] = []
+prints s (b ∷ bytes) = bytePrints s b ++ prints (byteLeaves s b) bytes
+
+-- what the input's end prints: a line that has begun ends there
+unfoldable pub endPrints : State → List ℕ
+endPrints s = cond (s .stopped || eqb (length (s .line)) 0) [] (stepOf (s .box) (s .line) .printed)
+
+-- what an input prints that comes in several reads
+unfoldable pub readsPrint : State → List (List ℕ) → List ℕ
+readsPrint s [] = endPrints s
+readsPrint s (bytes ∷ reads) = prints s bytes ++ readsPrint (leaves s bytes) reads
+
+-- the bytes of several reads as one input
+unfoldable pub joined : List (List ℕ) → List ℕ
+joined [] = []
+joined (bytes ∷ reads) = bytes ++ joined reads

@@ -1,0 +1,99 @@
+// Lines of output, written into a buffer from a place on. Each function answers the place behind what it wrote.
+ghost use mathlib.Core.Path.{_≡_};
+ghost use mathlib.Core.Bool.{cond};
+ghost use mathlib.Core.List.{[]};
+ghost use Prim.Native.Nat.{_+_, _≤_};
+ghost use lib.Dec.{eqb};
+ghost use lib.ListN.{length};
+ghost use Rattle.bar_box.specs.Sheet.{overlay};
+ghost use Rattle.text.specs.LabelText.{bytesOf};
+ghost use Rattle.label_lines.specs.Output.{numeral, field, rowLine, rowLines, refusalLine};
+use recognisers::Refusal;
+use recognisers::call::refusal_number;
+use text::label_text;
+
+const COMMA: u8 = 44;
+
+const LINE_FEED: u8 = 10;
+
+// Bytes and the one that ends them.
+fn write_field(s: &[u8], end: u8, out: &mut [u8], at: usize) -> usize
+    requires { ⌜ at + length (now s) + 1 ≤ length (now out) ⌝ }
+    ensures { λ r. ⌜ (r ≡ at + length (field (now (s .entry)) end)) × (now (out .exit) ≡ overlay (now (out .entry)) at (field (now (s .entry)) end)) ⌝ }
+{
+    let mut i = 0usize;
+    while i < s.len() {
+        out[at + i] = s[i];
+        i += 1;
+    }
+    out[at + i] = end;
+    at + i + 1
+}
+
+fn write_number(n: u64, end: u8, out: &mut [u8], at: usize) -> usize
+    requires { ⌜ at + 21 ≤ length (now out) ⌝ }
+    ensures { λ r. ⌜ (r ≡ at + length (field (numeral n) end)) × (now (out .exit) ≡ overlay (now (out .entry)) at (field (numeral n) end)) ⌝ }
+{
+    let mut digits = [0u8; 20];
+    let n_digits = io::decimal(n, &mut digits);
+    write_field(&digits[..n_digits], end, out, at)
+}
+
+fn write_label(code: u8, end: u8, out: &mut [u8], at: usize) -> usize
+    requires { ⌜ at + 16 ≤ length (now out) ⌝ }
+    ensures { λ r. ⌜ (r ≡ at + length (field (bytesOf code) end)) × (now (out .exit) ≡ overlay (now (out .entry)) at (field (bytesOf code) end)) ⌝ }
+{
+    let label = label_text::text_of(code);
+    let bytes = label.bytes;
+    let n = label.len as usize;
+    write_field(&bytes[..n], end, out, at)
+}
+
+// A row takes at most 74 bytes: two numbers of at most 20 digits, two labels of at most 15 bytes, and what ends each.
+fn write_row(ordinal: u64, k: u64, v1: u8, v2: u8, out: &mut [u8], at: usize) -> usize
+    requires { ⌜ at + 74 ≤ length (now out) ⌝ }
+    ensures { λ r. ⌜ (r ≡ at + length (rowLine ordinal k v1 v2)) × (now (out .exit) ≡ overlay (now (out .entry)) at (rowLine ordinal k v1 v2)) ⌝ }
+{
+    let a = write_number(ordinal, COMMA, out, at);
+    let b = write_number(k, COMMA, out, a);
+    let c = write_label(v1, COMMA, out, b);
+    write_label(v2, LINE_FEED, out, c)
+}
+
+// The line of one recogniser, if its v1 isn't 其他.
+fn write_pair(ordinal: u64, k: u64, v1: u8, v2: u8, out: &mut [u8], at: usize) -> usize
+    requires { ⌜ at + 74 ≤ length (now out) ⌝ }
+    ensures { λ r. ⌜ (r ≡ at + length (cond (eqb v1 0) [] (rowLine ordinal k v1 v2))) × (now (out .exit) ≡ overlay (now (out .entry)) at (cond (eqb v1 0) [] (rowLine ordinal k v1 v2))) ⌝ }
+{
+    if v1 == 0 {
+        at
+    } else {
+        write_row(ordinal, k, v1, v2, out, at)
+    }
+}
+
+// The lines of a bar whose row the sheet has: at most eighteen times 74 bytes.
+pub(crate) fn write_rows(ordinal: u64, sheet: &[u8], out: &mut [u8], at: usize) -> usize
+    requires { ⌜ (length (now sheet) ≡ 36) × (at + 1332 ≤ length (now out)) ⌝ }
+    ensures { λ r. ⌜ (r ≤ at + 1332) × (r ≡ at + length (rowLines ordinal 0 (now (sheet .entry)))) × (now (out .exit) ≡ overlay (now (out .entry)) at (rowLines ordinal 0 (now (sheet .entry)))) ⌝ }
+{
+    let mut k = 0usize;
+    let mut place = at;
+    while k < 18 {
+        let v1 = sheet[2 * k];
+        let v2 = sheet[2 * k + 1];
+        place = write_pair(ordinal, k as u64, v1, v2, out, place);
+        k += 1;
+    }
+    place
+}
+
+pub(crate) fn write_refusal(ordinal: u64, why: Refusal, out: &mut [u8], at: usize) -> usize
+    requires { ⌜ at + 50 ≤ length (now out) ⌝ }
+    ensures { λ r. ⌜ (r ≤ at + 50) × (r ≡ at + length (refusalLine ordinal why)) × (now (out .exit) ≡ overlay (now (out .entry)) at (refusalLine ordinal why)) ⌝ }
+{
+    let word = *b"refused";
+    let a = write_field(&word, COMMA, out, at);
+    let b = write_number(ordinal, COMMA, out, a);
+    write_number(refusal_number(why) as u64, LINE_FEED, out, b)
+}

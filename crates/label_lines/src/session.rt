@@ -1,0 +1,186 @@
+// What is held between two reads of an input, and what the bytes of one print.
+ghost use mathlib.Core.Path.{_≡_};
+ghost use mathlib.Core.Bool.{true, false, cond};
+ghost use mathlib.Core.List.{[]};
+ghost use lib.Dec.{leb};
+ghost use Prim.Native.Nat.{_+_, _≤_};
+ghost use lib.ListN.{length, take};
+ghost use Rattle.bar_box.specs.Sheet.{overlay};
+ghost use Rattle.text.specs.Lines.{content};
+ghost use Rattle.label_lines.specs.Output.{refusalLine, fedStep, stepOf};
+ghost use Rattle.label_lines.specs.Session.{stateOf, freshState, leaves, prints, endPrints};
+use crate::output;
+use bar_box::BarBox;
+use measures::Bar;
+use measures::least;
+use recognisers::Refusal;
+use recognisers::Thresholds;
+use recognisers::call::Verdict;
+use text::Line;
+use text::Partial;
+use text::lines;
+
+const LINE_FEED: u8 = 10;
+
+// The room for what a line may print: eighteen rows.
+const ROOM: usize = 1332;
+
+// The line that has begun, the box, and whether a line was refused.
+pub struct Session {
+    pub line: Partial,
+    pub held: BarBox,
+    pub stopped: bool,
+}
+
+// What a line leaves, and the place behind what it printed.
+struct Stepped {
+    held: BarBox,
+    stops: bool,
+    at: usize,
+}
+
+// The session after the first used bytes, which printed the first written bytes of the buffer.
+pub struct Absorbed {
+    pub session: Session,
+    pub used: usize,
+    pub written: usize,
+}
+
+// Before the first byte.
+pub fn begin() -> Session
+    ensures { λ r. ⌜ stateOf r ≡ freshState ⌝ }
+{
+    let standard = Thresholds::standard();
+    let made = bar_box::make(standard);
+    let held = made.after;
+    let line = lines::begin();
+    Session {
+        line,
+        held,
+        stopped: false,
+    }
+}
+
+fn refuse(held: BarBox, why: Refusal, out: &mut [u8], at: usize) -> Stepped
+    requires { ⌜ at + 1332 ≤ length (now out) ⌝ }
+    ensures { λ r. ⌜ (r .held ≡ held) × (r .stops ≡ true) × (r .at ≤ at + 1332) × (r .at ≡ at + length (refusalLine (held .count + 1) why)) × (now (out .exit) ≡ overlay (now (out .entry)) at (refusalLine (held .count + 1) why)) ⌝ }
+{
+    let ordinal = held.count as u64 + 1;
+    let end = output::write_refusal(ordinal, why, out, at);
+    Stepped {
+        held,
+        stops: true,
+        at: end,
+    }
+}
+
+// Feeds one bar and prints its rows.
+fn feed_bar(held: BarBox, bar: Bar, out: &mut [u8], at: usize) -> Stepped
+    requires { ⌜ at + 1332 ≤ length (now out) ⌝ }
+    ensures { λ r. ⌜ (r .held ≡ fedStep held bar .after) × (r .stops ≡ fedStep held bar .stops) × (r .at ≤ at + 1332) × (r .at ≡ at + length (fedStep held bar .printed)) × (now (out .exit) ≡ overlay (now (out .entry)) at (fedStep held bar .printed)) ⌝ }
+{
+    let prices = [bar.open, bar.close, bar.high, bar.low];
+    let mut sheet = [0u8; 36];
+    let fed = bar_box::feed(held, &prices, &mut sheet);
+    let verdict = fed.verdict;
+    match verdict {
+        Verdict::Denied(why) => refuse(held, why, out, at),
+        Verdict::Accepted => {
+            let ordinal = held.count as u64 + 1;
+            let end = output::write_rows(ordinal, &sheet, out, at);
+            let after = fed.after;
+            Stepped {
+                held: after,
+                stops: false,
+                at: end,
+            }
+        }
+    }
+}
+
+// The end of a line.
+fn step(held: BarBox, line: Partial, out: &mut [u8], at: usize) -> Stepped
+    requires { ⌜ at + 1332 ≤ length (now out) ⌝ }
+    ensures { λ r. ⌜ (r .held ≡ stepOf held (content line) .after) × (r .stops ≡ stepOf held (content line) .stops) × (r .at ≤ at + 1332) × (r .at ≡ at + length (stepOf held (content line) .printed)) × (now (out .exit) ≡ overlay (now (out .entry)) at (stepOf held (content line) .printed)) ⌝ }
+{
+    match lines::read(line) {
+        Line::Prices(bar) => feed_bar(held, bar, out, at),
+        Line::BadShape => refuse(held, Refusal::BadLine, out, at),
+        Line::BadPrice(_) => refuse(held, Refusal::BadLine, out, at),
+    }
+}
+
+// Bytes up to the end of a line, or all of them if none ends there.
+fn advance(st: Session, chunk: &[u8], out: &mut [u8], at: usize) -> Absorbed
+    requires { ⌜ (st .stopped ≡ false) × (1 ≤ length (now chunk)) × (at + 1332 ≤ length (now out)) ⌝ }
+    ensures { λ r. ⌜ (1 ≤ r .used) × (r .used ≤ length (now (chunk .entry))) × (stateOf (r .session) ≡ leaves (stateOf st) (take (r .used) (now (chunk .entry)))) × (r .written ≤ at + 1332) × (r .written ≡ at + length (prints (stateOf st) (take (r .used) (now (chunk .entry))))) × (now (out .exit) ≡ overlay (now (out .entry)) at (prints (stateOf st) (take (r .used) (now (chunk .entry))))) ⌝ }
+{
+    let k = lines::piece_end(LINE_FEED, chunk);
+    let begun = st.line;
+    let held = st.held;
+    let line = lines::extend(begun, &chunk[..k]);
+    if k < chunk.len() {
+        let stepped = step(held, line, out, at);
+        let after = stepped.held;
+        Absorbed {
+            session: Session {
+                line: lines::begin(),
+                held: after,
+                stopped: stepped.stops,
+            },
+            used: k + 1,
+            written: stepped.at,
+        }
+    } else {
+        Absorbed {
+            session: Session {
+                line,
+                held,
+                stopped: false,
+            },
+            used: k,
+            written: at,
+        }
+    }
+}
+
+// Bytes of input, as long as no line is refused and the buffer has room for what a line may print, 1,332 bytes. Where some bytes are
+// lent, no line was refused before and the buffer has that room, at least one byte is used.
+pub fn absorb(st: Session, chunk: &[u8], out: &mut [u8]) -> Absorbed
+    ensures { λ r. ⌜ (r .used ≤ length (now (chunk .entry))) × (st .stopped ≡ false → 1 ≤ length (now (chunk .entry)) → 1332 ≤ length (now (out .entry)) → 1 ≤ r .used) ⌝ }
+    ensures { λ r. ⌜ (r .written ≤ length (now (out .entry))) × (r .written ≡ length (prints (stateOf st) (take (r .used) (now (chunk .entry))))) ⌝ }
+    ensures { λ r. ⌜ (stateOf (r .session) ≡ leaves (stateOf st) (take (r .used) (now (chunk .entry)))) × (now (out .exit) ≡ overlay (now (out .entry)) 0 (prints (stateOf st) (take (r .used) (now (chunk .entry))))) ⌝ }
+{
+    let room = least(ROOM, out.len());
+    let limit = out.len() - room;
+    let mut session = st;
+    let mut used = 0usize;
+    let mut written = 0usize;
+    while (used < chunk.len()) & !session.stopped & (room == ROOM) & (written <= limit) {
+        let next = advance(session, &chunk[used..], out, written);
+        session = next.session;
+        used += next.used;
+        written = next.written;
+    }
+    Absorbed {
+        session,
+        used,
+        written,
+    }
+}
+
+// The end of the input, where a line that has begun ends. A buffer without the room that a line may need stays as it is.
+pub fn end(st: Session, out: &mut [u8]) -> usize
+    ensures { λ r. ⌜ (r ≤ length (now (out .entry))) × (r ≡ length (cond (leb 1332 (length (now (out .entry)))) (endPrints (stateOf st)) [])) ⌝ }
+    ensures { λ r. ⌜ now (out .exit) ≡ overlay (now (out .entry)) 0 (cond (leb 1332 (length (now (out .entry)))) (endPrints (stateOf st)) []) ⌝ }
+{
+    let line = st.line;
+    let held = st.held;
+    let none = lines::is_empty(line);
+    if (ROOM <= out.len()) & !st.stopped & !none {
+        let stepped = step(held, line, out, 0);
+        stepped.at
+    } else {
+        0
+    }
+}

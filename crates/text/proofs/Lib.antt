@@ -1,0 +1,7 @@
+-- A theorem about the labels' texts (RoundTrip), and laws that the proofs of several functions, and the crates above, cite.
+pub mod RoundTrip
+pub mod RunLaws
+pub mod PartLaws
+pub mod DigitLaws
+pub mod LabelLaws
+pub mod LineLaws

@@ -1,0 +1,130 @@
+-- Pieces and lines, one byte or one piece at a time; the bytes of a line that are enough to tell; and refusal 8. Assumes nothing.
+use Prim.Native.Nat.{ℕ, suc, _+_, _-_, _≤_, _<_}
+use mathlib.Core.Bool.{Bool, true, false, cond, not}
+use mathlib.Core.List.{List, [], _∷_, _++_, append-assoc, append-nil}
+use mathlib.Core.Path.{_≡_, refl, _∙_}
+use native.Mathlib.Numerals.{add-one}
+use native.Mathlib.Omega.{arith}
+use borrow.Author.Tests.{leb-true, leb-false, le-ltb, lt-ltb, lt-leb, ne-eqb}
+use lib.Dec.{eqb, leb}
+use lib.ListN.{length, take, drop, length-take}
+use lib.Seq.{take-all}
+use Rattle.recognisers.specs.Number.{longestLine}
+use Rattle.recognisers.specs.Refusal.{badLine, firstTrue}
+use Rattle.text.specs.declared.line_text.Line.{Line}
+use Rattle.text.specs.declared.line_text.Line.the-variants.{Prices, BadShape, BadPrice}
+use Rattle.text.specs.PriceText.{runOf}
+use Rattle.text.specs.Lines.{lineFeed, piecesFrom, piecesOf, endedLines, linesFrom, linesOf, pieceEnd, keptLine}
+use Rattle.text.specs.LineText.{comma, fieldsLine, lineOf, verdictOf, isPrices}
+use Rattle.text.proofs.PartLaws.{to-end}
+
+-- ---- pieces
+
+-- no separator: one piece
+pub pieces-last : (sep : ℕ) (cur s : List ℕ) → pieceEnd sep s ≡ length s → piecesFrom sep cur s ≡ (cur ++ s) ∷ []
+unfolding piecesFrom runOf
+pieces-last sep cur [] e = rw append-nil
+pieces-last sep cur (b ∷ bs) e = go (eqb b sep) (pieces-last sep (cur ++ (b ∷ [])) bs) e
+  where
+    go : (t : Bool) → (pieceEnd sep bs ≡ length bs → piecesFrom sep (cur ++ (b ∷ [])) bs ≡ ((cur ++ (b ∷ [])) ++ bs) ∷ [])
+        → cond (not t) (suc (pieceEnd sep bs)) 0 ≡ suc (length bs)
+        → cond t (cur ∷ piecesFrom sep [] bs) (piecesFrom sep (cur ++ (b ∷ [])) bs) ≡ (cur ++ (b ∷ bs)) ∷ []
+    go true rest e = absurd (omega arith)
+    go false rest e = rest (omega arith) ∙ rw append-assoc
+
+-- the piece before the first separator, and those behind it
+pub pieces-next : (sep : ℕ) (cur s : List ℕ) → pieceEnd sep s < length s
+    → piecesFrom sep cur s ≡ (cur ++ take (pieceEnd sep s) s) ∷ piecesOf sep (drop (pieceEnd sep s + 1) s)
+unfolding piecesFrom runOf
+pieces-next sep cur [] h = absurd (omega arith)
+pieces-next sep cur (b ∷ bs) h = go (eqb b sep) (pieces-next sep (cur ++ (b ∷ [])) bs) h
+  where
+    go : (t : Bool)
+        → (pieceEnd sep bs < length bs
+        → piecesFrom sep (cur ++ (b ∷ [])) bs ≡ ((cur ++ (b ∷ [])) ++ take (pieceEnd sep bs) bs) ∷ piecesOf sep (drop (pieceEnd sep bs + 1) bs))
+        → let k = cond (not t) (suc (pieceEnd sep bs)) 0 in
+        k < suc (length bs)
+        → cond t (cur ∷ piecesFrom sep [] bs) (piecesFrom sep (cur ++ (b ∷ [])) bs) ≡ (cur ++ take k (b ∷ bs)) ∷ piecesOf sep (drop (k + 1) (b ∷ bs))
+    go true rest h = rw append-nil
+    go false rest h = rest (omega arith) ∙ rw (append-assoc, add-one (pieceEnd sep bs), add-one (suc (pieceEnd sep bs)))
+
+-- there is always a piece
+pub pieces-some : (sep : ℕ) (cur s : List ℕ) → 1 ≤ length (piecesFrom sep cur s)
+unfolding piecesFrom
+pieces-some sep cur [] = omega arith
+pieces-some sep cur (b ∷ bs) = go (eqb b sep) (pieces-some sep (cur ++ (b ∷ [])) bs)
+  where
+    go : (t : Bool) → 1 ≤ length (piecesFrom sep (cur ++ (b ∷ [])) bs)
+        → 1 ≤ length (cond t (cur ∷ piecesFrom sep [] bs) (piecesFrom sep (cur ++ (b ∷ [])) bs))
+    go true rest = omega arith
+    go false rest = rest
+
+-- both cases from a place k that is known to be the first piece's end
+module _ (sep : ℕ) (s : List ℕ) (k : ℕ) (e : k ≡ pieceEnd sep s) where
+  pub pieces-whole : length s ≤ k → k ≤ length s → piecesOf sep s ≡ s ∷ []
+  pieces-whole h g = pieces-last sep [] s (omega arith)
+
+  pub pieces-cut : k < length s → piecesOf sep s ≡ take k s ∷ piecesOf sep (take (length s - (k + 1)) (drop (k + 1) s))
+  pieces-cut h = rw (to-end s (k + 1), e) (pieces-next sep [] s (omega arith))
+
+-- ---- lines
+
+pub lines-end : linesFrom [] [] ≡ []
+unfolding piecesFrom endedLines
+lines-end = refl
+
+pub lines-last : (b : ℕ) (bs : List ℕ) → linesFrom (b ∷ bs) [] ≡ (b ∷ bs) ∷ []
+unfolding piecesFrom endedLines
+lines-last b bs = refl
+
+-- a piece with another behind it is a line
+ended-more : (l : List ℕ) (ls : List (List ℕ)) → 1 ≤ length ls → endedLines (l ∷ ls) ≡ l ∷ endedLines ls
+unfolding endedLines
+ended-more l [] h = absurd (omega arith)
+ended-more l (m ∷ ls) h = refl
+
+pub lines-feed : (cur s : List ℕ) → linesFrom cur (lineFeed ∷ s) ≡ cur ∷ linesFrom [] s
+unfolding piecesFrom
+lines-feed cur s = ended-more cur (piecesOf lineFeed s) (pieces-some lineFeed [] s)
+
+pub lines-byte : (cur : List ℕ) (b : ℕ) (s : List ℕ) → eqb b lineFeed ≡ false → linesFrom cur (b ∷ s) ≡ linesFrom (cur ++ (b ∷ [])) s
+unfolding piecesFrom
+lines-byte cur b s e = rw e
+
+pub lines-first : (s : List ℕ) → pieceEnd lineFeed s < length s
+    → linesOf s ≡ take (pieceEnd lineFeed s) s ∷ linesOf (drop (pieceEnd lineFeed s + 1) s)
+lines-first s h =
+    let k = pieceEnd lineFeed s in
+    let rest = drop (k + 1) s in
+    rw (pieces-next lineFeed [] s h) (ended-more (take k s) (piecesOf lineFeed rest) (pieces-some lineFeed [] rest))
+
+-- ---- a line
+
+-- five fields or more
+pub too-many : (o c h l : List ℕ) (rest : List (List ℕ)) → 1 ≤ length rest → BadShape ≡ fieldsLine (o ∷ c ∷ h ∷ l ∷ rest)
+unfolding fieldsLine
+too-many o c h l rest some = rw (ne-eqb (length (o ∷ c ∷ h ∷ l ∷ rest)) 4 (λ e. omega arith))
+
+-- the kept bytes of a line say what the line says
+pub line-kept : (s : List ℕ) → lineOf (keptLine s) ≡ lineOf s
+unfolding lineOf
+line-kept s = go (leb (length s) longestLine) refl
+  where
+    go : (t : Bool) → leb (length s) longestLine ≡ t → lineOf (keptLine s) ≡ lineOf s
+    go true e = rw (take-all (suc longestLine) s (omega (arith, leb-true (length s) longestLine e)))
+    go false e =
+        let long : longestLine < length s = leb-false (length s) longestLine e in
+        let kept : longestLine < length (keptLine s) = simp length-take (omega arith) in
+        rw (lt-leb _ _ long, lt-leb _ _ kept)
+
+-- a line that is denied is refusal 8
+pub line-refused : (s : List ℕ) → verdictOf (lineOf s) ≡ firstTrue (badLine (length s) (isPrices (fieldsLine (piecesOf comma s))) ∷ [])
+unfolding lineOf firstTrue
+line-refused s = go (leb (length s) longestLine) refl (fieldsLine (piecesOf comma s))
+  where
+    go : (t : Bool) → leb (length s) longestLine ≡ t → (line : Line)
+        → verdictOf (cond t line BadShape) ≡ firstTrue (badLine (length s) (isPrices line) ∷ [])
+    go false e line = rw (lt-ltb longestLine (length s) (leb-false (length s) longestLine e))
+    go true e (Prices bar) = rw (le-ltb longestLine (length s) (leb-true (length s) longestLine e))
+    go true e BadShape = rw (le-ltb longestLine (length s) (leb-true (length s) longestLine e))
+    go true e (BadPrice place) = rw (le-ltb longestLine (length s) (leb-true (length s) longestLine e))

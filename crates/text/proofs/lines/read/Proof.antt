@@ -1,0 +1,41 @@
+-- The first 81 bytes at most, which are all that there are. Assumes nothing.
+use mathlib.Core.Path.{_≡_, ap, _∙_}
+use native.Mathlib.Omega.{arith}
+use borrow.Author.Needs.{needs}
+use lib.ListN.{length, length-map, length-take}
+use Rattle.text.specs.LineText.{lineOf}
+use Rattle.text.proofs.PartLaws.{take-least}
+use Rattle.text.proofs.lines.read.Statement.{statement}
+use Rattle.text.proofs.lines.read.Tie as tie
+
+-- the array has its 81 bytes: what owning the parameter tells
+all-bytes : (c : tie.Start) → length (c .args .line .bytes) ≡ 81
+all-bytes c = simp length-map at (c .good .0 .1 .1 .0 .1 .0 .1)
+
+least-requires : tie.Need-least-requires
+least-requires c κs = search needs
+
+array-share-prefix-bytes : tie.Need-array-share-prefix-bytes
+array-share-prefix-bytes c = omega (arith, all-bytes (c .before .before))
+
+slice-aggregate-read-line : tie.Need-slice-aggregate-read-line
+slice-aggregate-read-line c = simp length-take (omega (arith, all-bytes (c .before .before .before)))
+
+read-line-requires : tie.Need-read-line-requires
+read-line-requires c κs = search needs
+
+returns : tie.Need-returns
+returns c =
+    let n = c .before .before in
+    let p = n .before .before .args .line in
+    c .read-line .ensures ∙ rw (n .least .ensures) (ap lineOf (take-least (p .len) 81 (p .bytes) (all-bytes (n .before .before))))
+
+pub read-spec : {M : Type 1} → statement M
+read-spec =
+    tie.close
+    (tie.spec
+    least-requires
+    array-share-prefix-bytes
+    slice-aggregate-read-line
+    read-line-requires
+    returns)

@@ -1,0 +1,4 @@
+pub mod LabelText
+pub mod PriceText
+pub mod LineText
+pub mod Lines

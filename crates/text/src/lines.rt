@@ -1,0 +1,73 @@
+// The splitting of an input into lines.
+ghost use mathlib.Core.Path.{_≡_};
+ghost use mathlib.Core.List.{[], _++_};
+ghost use Prim.Native.Nat.{_≤_};
+ghost use lib.Dec.{eqb};
+ghost use lib.ListN.{length};
+ghost use Rattle.text.specs.LineText.{lineOf};
+ghost use Rattle.text.specs.Lines.{pieceEnd, keptLine, content};
+use crate::line_text;
+use crate::line_text::Line;
+use measures::least;
+
+// How many bytes of s come before the first separator: all, if it has none.
+pub fn piece_end(separator: u8, s: &[u8]) -> usize
+    ensures { λ r. ⌜ (r ≡ pieceEnd separator (now (s .entry))) × (r ≤ length (now (s .entry))) ⌝ }
+{
+    let mut i = 0usize;
+    while i < s.len() {
+        if s[i] == separator {
+            return i;
+        }
+        i += 1;
+    }
+    i
+}
+
+// The bytes of a line that has begun, of which the first len count. Of a line that is too long the first 81 are kept, which are enough
+// to tell.
+pub struct Partial {
+    pub bytes: [u8; 81],
+    pub len: usize,
+}
+
+// A line that has no bytes yet.
+pub fn begin() -> Partial
+    ensures { λ r. ⌜ content r ≡ [] ⌝ }
+{
+    Partial {
+        bytes: [0; 81],
+        len: 0,
+    }
+}
+
+// The line with the bytes of s behind it.
+pub fn extend(line: Partial, s: &[u8]) -> Partial
+    ensures { λ r. ⌜ content r ≡ keptLine (content line ++ now (s .entry)) ⌝ }
+{
+    let at = least(line.len, 81);
+    let n = least(s.len(), 81 - at);
+    let mut bytes = line.bytes;
+    let mut i = 0usize;
+    while i < n {
+        bytes[at + i] = s[i];
+        i += 1;
+    }
+    Partial { bytes, len: at + n }
+}
+
+// Whether the line has no bytes.
+pub fn is_empty(line: Partial) -> bool
+    ensures { λ r. ⌜ r ≡ eqb (length (content line)) 0 ⌝ }
+{
+    line.len == 0
+}
+
+// What the line says.
+pub fn read(line: Partial) -> Line
+    ensures { λ r. ⌜ r ≡ lineOf (content line) ⌝ }
+{
+    let bytes = line.bytes;
+    let n = least(line.len, 81);
+    line_text::read_line(&bytes[..n])
+}
