@@ -45,11 +45,11 @@ pub past-bars : (bars : List Bar) (i : ℕ) → length bars ≤ i → drop i bar
 past-bars bars i h = drop-of-length-le bars h
 
 -- as many as there are at most
-pub take-least : (n : ℕ) (bars : List Bar) → take (min n (length bars)) bars ≡ take n bars
-take-least n bars =
-    elim (decLe n (length bars)) [
-      | yes h ↦ (let e : min n (length bars) ≡ n = omega arith in rw e)
-      | no g ↦ (let e : min n (length bars) ≡ length bars = omega arith in rw e (take-length bars ∙ sym (take-all n bars (omega arith))))
+pub take-least : {A : Type 0} (n k : ℕ) (s : List A) → length s ≡ k → take (min n k) s ≡ take n s
+take-least n k s len =
+    elim (decLe n k) [
+      | yes h ↦ (let e : min n k ≡ n = omega arith in rw e)
+      | no g ↦ (let e : min n k ≡ length s = omega arith in rw e (take-length s ∙ sym (take-all n s (omega arith))))
     ]
 
 -- the bars of a part that begins and ends with a bar

@@ -3,6 +3,8 @@ ghost use mathlib.Core.Path.{_≡_};
 ghost use Rattle.measures.specs.Bar.{bodyOf, upperOf, lowerOf, dojiOf};
 use crate::price;
 
+// A host program lends bars in this layout.
+#[repr(C)]
 pub struct Bar {
     pub open: f64,
     pub close: f64,

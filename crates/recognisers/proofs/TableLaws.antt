@@ -25,21 +25,27 @@ unfolding rowOf rows
 past-table k h = List·getD-eq-default rows noRow h
 
 -- ---- the columns of the table
-element : {A B : Type 0} (f : A → B) (xs : List A) (k : ℕ) (d : A) (e : B) → k < length xs → getD (map f xs) k e ≡ f (getD xs k d)
-element f [] k d e h = absurd (not-suc-le-zero h)
-element f (x ∷ xs) zero d e h = refl
-element f (x ∷ xs) (suc k) d e h = element f xs k d e (le-of-suc-le-suc h)
+
+-- an element of a mapped list
+pub getD-map : {A B : Type 0} (f : A → B) (xs : List A) (k : ℕ) (d : A) (e : B) → k < length xs → getD (map f xs) k e ≡ f (getD xs k d)
+getD-map f [] k d e h = absurd (not-suc-le-zero h)
+getD-map f (x ∷ xs) zero d e h = refl
+getD-map f (x ∷ xs) (suc k) d e h = getD-map f xs k d e (le-of-suc-le-suc h)
 
 pub from-at : (k : ℕ) → k < recognisers → getD (1 ∷ 2 ∷ 12 ∷ 16 ∷ 5 ∷ 6 ∷ 3 ∷ 2 ∷ 1 ∷ 2 ∷ 2 ∷ 3 ∷ 3 ∷ 11 ∷ 8 ∷ 21 ∷ 7 ∷ 5 ∷ []) k 0 ≡ rowOf k .from
 unfolding rowOf rows
-from-at k h = element (λ (r : Row). r .from) rows k noRow 0 h
+from-at k h = getD-map (λ (r : Row). r .from) rows k noRow 0 h
+
+-- whether each short pair is B
+abbrev pub shortIsB : List Bool
+shortIsB = false ∷ false ∷ true ∷ true ∷ false ∷ false ∷ true ∷ false ∷ false ∷ true ∷ true ∷ true ∷ false ∷ false ∷ true ∷ true ∷ true ∷ false ∷ []
 
 pub short-at : (k : ℕ) → k < recognisers
-    → cond (getD (false ∷ false ∷ true ∷ true ∷ false ∷ false ∷ true ∷ false ∷ false ∷ true ∷ true ∷ true ∷ false ∷ false ∷ true ∷ true ∷ true ∷ false ∷ []) k false) pairB pairA ≡ rowOf k .short
+    → cond (getD shortIsB k false) pairB pairA ≡ rowOf k .short
 unfolding rowOf rows
 short-at k h =
-    sym (element (λ (b : Bool). cond b pairB pairA) (false ∷ false ∷ true ∷ true ∷ false ∷ false ∷ true ∷ false ∷ false ∷ true ∷ true ∷ true ∷ false ∷ false ∷ true ∷ true ∷ true ∷ false ∷ []) k false pairA h)
-    ∙ element (λ (r : Row). r .short) rows k noRow pairA h
+    sym (getD-map (λ (b : Bool). cond b pairB pairA) shortIsB k false pairA h)
+    ∙ getD-map (λ (r : Row). r .short) rows k noRow pairA h
 
 -- the short pair below the p given, else what the rule gave; and so for each of a run of rows from k on
 abbrev pub shortOr : ℕ → ℕ → Pair → Pair

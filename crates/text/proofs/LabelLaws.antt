@@ -14,12 +14,6 @@ use lib.Seq.{drop-cons, take-at}
 use Rattle.text.specs.LabelText.{labels, bytesOf, mostBytes, textOf, same, placeIn}
 use Rattle.text.proofs.RunLaws.{both}
 
--- an element of a mapped list
-pub getD-map : {A B : Type 0} (f : A → B) (xs : List A) (i : ℕ) (d : A) (e : B) → i < length xs → getD (map f xs) i e ≡ f (getD xs i d)
-getD-map f [] i d e h = absurd (not-suc-le-zero h)
-getD-map f (x ∷ xs) zero d e h = refl
-getD-map f (x ∷ xs) (suc i) d e h = getD-map f xs i d e (le-of-suc-le-suc h)
-
 -- ---- the same bytes
 same-refl : (a : List ℕ) → same a a ≡ true
 unfolding same

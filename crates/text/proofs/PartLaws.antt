@@ -1,8 +1,7 @@
--- Parts of a list: up to its end, no more than it has, of two lists one behind the other, and copied element by element. Assumes nothing.
+-- Parts of a list: up to its end, of two lists one behind the other, and copied element by element. Assumes nothing.
 use Prim.Native.Nat.{ℕ, _+_, _-_, _≤_, _<_, min}
 use mathlib.Core.List.{List, _++_, append-assoc}
 use mathlib.Core.Path.{_≡_, sym, _∙_}
-use native.Mathlib.Decide.{decLe}
 use native.Mathlib.Omega.{arith}
 use native.Mathlib.Numerals.{add-one}
 use lib.ListN.{length, getD, take, drop, set, length-drop}
@@ -11,13 +10,6 @@ use lib.Seq.{take-all, take-length, take-suc, take-suc-set, take-append-add}
 module _ {A : Type 0} where
   pub to-end : (s : List A) (a : ℕ) → take (length s - a) (drop a s) ≡ drop a s
   to-end s a = rw (← length-drop a s, take-length (drop a s))
-
-  pub take-least : (n k : ℕ) (s : List A) → length s ≡ k → take (min n k) s ≡ take n s
-  take-least n k s len =
-      elim (decLe n k) [
-        | yes h ↦ (let e : min n k ≡ n = omega arith in rw e)
-        | no g ↦ (let e : min n k ≡ length s = omega arith in rw e (take-length s ∙ sym (take-all n s (omega arith))))
-      ]
 
   -- a part that reaches beyond the first of two lists
   pub take-beyond : (k : ℕ) (s t : List A) → length s ≤ k → take k (s ++ t) ≡ s ++ take (k - length s) t

@@ -5,7 +5,8 @@ use borrow.Author.Needs.{needs}
 use lib.ListN.{length, replicate}
 use Rattle.text.specs.declared.label_text.Text.{Text}
 use Rattle.text.specs.LabelText.{labels, mostBytes, textOf}
-use Rattle.text.proofs.LabelLaws.{getD-map, no-bytes}
+use Rattle.recognisers.proofs.TableLaws.{getD-map}
+use Rattle.text.proofs.LabelLaws.{no-bytes}
 use Rattle.text.proofs.label_text.text_of.Statement.{statement}
 use Rattle.text.proofs.label_text.text_of.Tie as tie
 

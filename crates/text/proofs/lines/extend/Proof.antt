@@ -6,7 +6,8 @@ use native.Mathlib.Nat.{add-zero}
 use native.Mathlib.Omega.{arith}
 use borrow.Author.Needs.{needs}
 use lib.ListN.{length, take, length-map, length-set, length-take}
-use Rattle.text.proofs.PartLaws.{take-least, take-beyond, copy-more}
+use Rattle.measures.proofs.RunLaws.{take-least}
+use Rattle.text.proofs.PartLaws.{take-beyond, copy-more}
 use Rattle.text.proofs.lines.extend.Statement.{statement}
 use Rattle.text.proofs.lines.extend.Tie as tie
 

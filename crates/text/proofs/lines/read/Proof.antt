@@ -4,7 +4,7 @@ use native.Mathlib.Omega.{arith}
 use borrow.Author.Needs.{needs}
 use lib.ListN.{length, length-map, length-take}
 use Rattle.text.specs.LineText.{lineOf}
-use Rattle.text.proofs.PartLaws.{take-least}
+use Rattle.measures.proofs.RunLaws.{take-least}
 use Rattle.text.proofs.lines.read.Statement.{statement}
 use Rattle.text.proofs.lines.read.Tie as tie
 

@@ -1,0 +1,168 @@
+// The plain call over a lent slice of bar records, and its export for a host program. All is proved, nothing is assumed, and no
+// public function has a `requires`: each contract is an equation with the definition of recognisers' plain call, for every input.
+// The borrow checker doesn't cover a slice of structs, so that what takes one is proved by a walk by hand: it is kept thin, and the
+// work is done on plain values.
+ghost use mathlib.Core.Path.{_≡_};
+ghost use mathlib.Core.Bool.{true};
+ghost use mathlib.Core.List.{[], _∷_, _++_};
+ghost use Prim.Native.Nat as Nat;
+ghost use Prim.Native.Nat.{_+_, _-_, _≤_, _<_};
+ghost use lib.ListN.{length, take, drop};
+ghost use Rattle.measures.specs.Window.{upTo, windowOf};
+ghost use Rattle.recognisers.specs.declared.call.Answer.the-variants.{Labels};
+ghost use Rattle.recognisers.specs.Number.{reachBars};
+ghost use Rattle.recognisers.specs.Threshold.{thresholdsOf};
+ghost use Rattle.recognisers.specs.Table.{judgeOf};
+ghost use Rattle.recognisers.specs.Refusal.{plainVerdict, answerTo, plainAnswer};
+ghost use Rattle.recognisers.specs.Export.{resultOf};
+ghost use Rattle.records.specs.Held.{barsIn};
+use measures::Bar;
+use recognisers::Answer;
+use recognisers::Pair;
+use recognisers::Thresholds;
+use recognisers::call;
+use recognisers::call::Verdict;
+use recognisers::counts;
+use recognisers::export;
+use recognisers::table;
+
+// The prices of up to 22 bars, as many as a rule can see.
+struct Window {
+    prices: [f64; 88],
+    count: usize,
+}
+
+// The places of a run of bars: from one on, up to the one before another.
+struct Span {
+    from: usize,
+    to: usize,
+}
+
+fn empty() -> Window
+    ensures { λ r. ⌜ r .count ≡ 0 ⌝ }
+{
+    Window {
+        prices: [0.0; 88],
+        count: 0,
+    }
+}
+
+// One bar more.
+fn push(mut w: Window, b: Bar) -> Window
+    requires { ⌜ w .count < reachBars ⌝ }
+    ensures { λ r. ⌜ (r .count ≡ w .count + 1) × (barsIn r ≡ barsIn w ++ b ∷ []) ⌝ }
+{
+    let at = 4 * w.count;
+    w.prices[at] = b.open;
+    w.prices[at + 1] = b.close;
+    w.prices[at + 2] = b.high;
+    w.prices[at + 3] = b.low;
+    w.count += 1;
+    w
+}
+
+// The window with the bars from a place on, up to the one before another.
+fn gathered(bars: &[Bar], mut i: usize, to: usize, mut w: Window) -> Window
+    requires { ⌜ (to ≤ length (now bars)) × (w .count + (to - i) ≤ reachBars) ⌝ }
+    ensures { λ r. ⌜ (r .count ≡ w .count + (to - i)) × (barsIn r ≡ barsIn w ++ take (to - i) (drop i (now (bars .entry)))) ⌝ }
+{
+    while i < to {
+        w = push(w, bars[i]);
+        i += 1;
+    }
+    w
+}
+
+// Where the last n bars up to the judged one are.
+fn span_of(len: usize, di: usize, n: usize) -> Span
+    ensures { λ r. ⌜ (r .to ≡ upTo len di) × (r .from ≡ upTo len di - Nat.min n (upTo len di)) ⌝ }
+{
+    let p = measures::up_to(len, di);
+    Span {
+        from: p - measures::least(n, p),
+        to: p,
+    }
+}
+
+// The last n bars up to the judged one.
+fn window_of(bars: &[Bar], di: usize, n: usize) -> Window
+    requires { ⌜ n ≤ reachBars ⌝ }
+    ensures { λ r. ⌜ (r .count ≤ reachBars) × (barsIn r ≡ windowOf (now (bars .entry)) di n) ⌝ }
+{
+    let s = span_of(bars.len(), di, n);
+    gathered(bars, s.from, s.to, empty())
+}
+
+// The pair at an offset of a history of len bars, out of the judged bar's window and the gate's.
+fn pair_in(k: u32, t: Thresholds, len: usize, di: u32, w: Window, gate: Window) -> Pair
+    requires { ⌜ (w .count ≤ reachBars) × (gate .count ≤ reachBars) ⌝ }
+    ensures { λ r. ⌜ r ≡ judgeOf k t len (upTo len di) (barsIn w) (barsIn gate) ⌝ }
+{
+    let p = measures::up_to(len, di as usize);
+    let w_prices = w.prices;
+    let w_len = 4 * w.count;
+    let gate_prices = gate.prices;
+    let gate_len = 4 * gate.count;
+    table::judge(k, t, len, p, &w_prices[..w_len], &gate_prices[..gate_len])
+}
+
+// The answer of a plain call over a history of len bars, out of those windows.
+fn answer(k: u32, di: u32, t: Thresholds, len: usize, w: Window, gate: Window) -> Answer
+    requires { ⌜ (w .count ≤ reachBars) × (gate .count ≤ reachBars) ⌝ }
+    ensures { λ r. ⌜ r ≡ answerTo (plainVerdict k di t true len) (Labels (judgeOf k t len (upTo len di) (barsIn w) (barsIn gate))) ⌝ }
+{
+    match call::plain_verdict(k, di, t, true, len) {
+        Verdict::Denied(why) => Answer::Refused(why),
+        Verdict::Accepted => { Answer::Labels(pair_in(k, t, len, di, w, gate)) }
+    }
+}
+
+// The plain call: as recognisers::recognise, which is lent prices. Records are whole bars, so that refusal 4 can't arise.
+pub fn recognise_bars(k: u32, di: u32, t: Thresholds, bars: &[Bar]) -> Answer
+    ensures { λ r. ⌜ r ≡ plainAnswer k di t true (now (bars .entry)) ⌝ }
+{
+    let w = window_of(bars, di as usize, counts::REACH_BARS);
+    let gate = window_of(bars, counts::GATE_END, counts::QUARTER_BARS);
+    answer(k, di, t, bars.len(), w, gate)
+}
+
+// The plain call as a number, as recognisers::jcc_label, which is lent bytes.
+#[no_mangle]
+pub extern "C" fn jcc_label_bars(
+    recogniser: u32,
+    offset: u32,
+    th0: f64,
+    z2: u32,
+    th2: u32,
+    z3: u32,
+    th3: u32,
+    zdf5: u32,
+    th6: u32,
+    zdf7: u32,
+    th8: f64,
+    zf8: u32,
+    th10: u32,
+    th13: u32,
+    th14: u32,
+    bars: &[Bar],
+) -> u32
+    ensures { λ r. ⌜ r ≡ resultOf (plainAnswer recogniser offset
+        (thresholdsOf th0 z2 th2 z3 th3 zdf5 th6 zdf7 th8 zf8 th10 th13 th14) true (now (bars .entry))) ⌝ }
+{
+    let t = Thresholds::new(
+        th0,
+        z2,
+        th2,
+        z3,
+        th3,
+        zdf5,
+        th6,
+        zdf7,
+        th8,
+        zf8,
+        th10,
+        th13,
+        th14,
+    );
+    export::answer_number(recognise_bars(recogniser, offset, t, bars))
+}
