@@ -93,12 +93,12 @@ module _ (b : BarBox) (start : NoBars b) (fs : List Feed) where
 -- ---- the box that making gives
 
 -- the standard set is inside the limits
-standard-valid : validOf standardSet ≡ true
+pub standard-valid : validOf standardSet ≡ true
 unfolding validOf standardSet le ofBits
 standard-valid = refl
 
 -- "A fresh box has no bars and its thresholds"
-fresh-none : (t : Thresholds) → NoBars (freshBox t)
+pub fresh-none : (t : Thresholds) → NoBars (freshBox t)
 unfolding emptyPlaces
 fresh-none t = record { none = refl; all-places = refl }
 

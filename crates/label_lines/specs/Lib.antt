@@ -1,2 +1,3 @@
+pub mod History
 pub mod Output
 pub mod Session

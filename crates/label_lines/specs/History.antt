@@ -1,0 +1,29 @@
+-- "The labels program": what it prints for an input, said of the whole history up to each bar, without the box.
+use Prim.Native.Nat.{ℕ, _+_}
+use mathlib.Core.Bool.{cond}
+use mathlib.Core.List.{List, [], _∷_, _++_}
+use lib.Dec.{ltb}
+use lib.ListN.{length}
+use Rattle.measures.specs.declared.bars.Bar.{Bar}
+use Rattle.recognisers.specs.declared.call.Refusal.the-variants.{TooManyBars, BadLine}
+use Rattle.recognisers.specs.Number.{mostBars}
+use Rattle.recognisers.specs.Threshold.{standardSet}
+use Rattle.bar_box.specs.Sheet.{rowOf}
+use Rattle.text.specs.declared.line_text.Line.{Line}
+use Rattle.text.specs.declared.line_text.Line.the-variants.{Prices, BadShape, BadPrice}
+use Rattle.label_lines.specs.Output.{rowLines, refusalLine}
+
+-- the lines of a history's newest bar: its ordinal is the history's count, its row is over the whole history
+abbrev pub newestLines : List Bar → List ℕ
+newestLines history = rowLines (length history) 0 (rowOf standardSet (length history) history)
+
+-- what lines print that follow a history: each bar, up to 1,000,000 of them, the rows over the history up to it; the first line that is
+-- none, or is one more, its refusal, after which nothing is printed
+unfoldable pub historyPrints : List Bar → List Line → List ℕ
+historyPrints history [] = []
+historyPrints history (Prices bar ∷ lines) =
+    cond (ltb (length history) mostBars)
+    (newestLines (history ++ (bar ∷ [])) ++ historyPrints (history ++ (bar ∷ [])) lines)
+    (refusalLine (length history + 1) TooManyBars)
+historyPrints history (BadShape ∷ lines) = refusalLine (length history + 1) BadLine
+historyPrints history (BadPrice place ∷ lines) = refusalLine (length history + 1) BadLine
