@@ -4,8 +4,8 @@ use crate::tally::Tally;
 use inputs::hostile;
 use inputs::known::Known;
 use inputs::rng::Rng;
-use inputs::{Case, list};
-use jcc_types::{Answer, BAR_BYTES, Bar, NAMES, REFUSED, Thresholds};
+use inputs::{Case, report};
+use jcc_types::{Answer, BAR_BYTES, Bar, REFUSED, Thresholds};
 use oracle::Oracle;
 use oracle::corner::Corner;
 use std::fmt::Write;
@@ -223,24 +223,8 @@ impl Judge {
     }
 }
 
-/// The call in words and as lines of a list, with which it can be replayed.
 fn difference(k: u32, offset: u32, case: &Case, answers: &[(&str, u32)]) -> Difference {
-    let mut text = String::new();
-    let name = NAMES.get(k as usize).copied().unwrap_or("none");
-    writeln!(text, "recogniser {k} ({name}), offset {offset}").expect("text grows");
-    for (who, number) in answers {
-        writeln!(text, "{who}: {number} ({})", Answer(*number)).expect("text grows");
-    }
-    writeln!(text, "{:?}", case.thresholds).expect("text grows");
-    for bar in &case.bars {
-        let [open, close, high, low] = bar.prices();
-        writeln!(text, "{open:?}/{close:?}/{high:?}/{low:?}").expect("text grows");
-    }
-    text.push_str("The same as lines of a list:\n");
-    list::history(&mut text, &case.bars);
-    list::thresholds(&mut text, &case.thresholds);
-    list::call(&mut text, k, offset);
-    Difference(text)
+    Difference(report::call(k, offset, case, answers))
 }
 
 /// A history as bytes, at any alignment.

@@ -5,8 +5,7 @@ use crate::options::Options;
 use inputs::families::{FAMILIES, LONG};
 use inputs::grids::{GRIDS, Grid};
 use inputs::rng::Rng;
-use inputs::walk::Walk;
-use inputs::{Case, known, refusals};
+use inputs::{Case, known, refusals, walk};
 use jcc_types::{BAR_BYTES, Bar, MAX_BARS, RECOGNISERS};
 use std::ops::Range;
 
@@ -137,9 +136,7 @@ fn grid_calls(judge: &mut Judge, grid: &Grid, range: Range<usize>) -> Result<(),
 
 /// A walk of one bar more than there may be.
 fn too_many_bars() -> Vec<Bar> {
-    let mut rng = Rng::stream(0, 0, 0);
-    let mut walk = Walk::market();
-    (0..MAX_BARS + 1).map(|_| walk.bar(&mut rng)).collect()
+    walk::market(&mut Rng::stream(0, 0, 0), MAX_BARS + 1)
 }
 
 fn refusal_calls(judge: &mut Judge) -> Result<(), Difference> {

@@ -8,8 +8,7 @@ use inputs::families::PIECES;
 use inputs::histories::{self, LENGTHS};
 use inputs::looks::Look;
 use inputs::rng::Rng;
-use inputs::walk::Walk;
-use inputs::{Case, known};
+use inputs::{Case, known, walk};
 use jcc_types::{Bar, KEPT, MAX_BARS, MOST_OFFSET};
 
 /// The histories in a part.
@@ -114,9 +113,7 @@ fn known_histories(judge: &mut Judge) -> Result<(), Difference> {
 }
 
 fn walk(count: usize) -> Vec<Bar> {
-    let mut rng = Rng::stream(0, LONG, 0);
-    let mut walk = Walk::market();
-    (0..count).map(|_| walk.bar(&mut rng)).collect()
+    walk::market(&mut Rng::stream(0, LONG, 0), count)
 }
 
 /// A difference here is not made simpler.

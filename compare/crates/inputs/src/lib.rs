@@ -13,6 +13,7 @@ pub mod looks;
 pub mod pairs;
 pub mod planted;
 pub mod refusals;
+pub mod report;
 pub mod rng;
 pub mod walk;
 

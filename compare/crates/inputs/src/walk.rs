@@ -66,6 +66,12 @@ impl Walk {
     }
 }
 
+/// So many bars of the benchmark's walk.
+pub fn market(rng: &mut Rng, count: usize) -> Vec<Bar> {
+    let mut walk = Walk::market();
+    (0..count).map(|_| walk.bar(rng)).collect()
+}
+
 /// Shadows are absent as often as they are long.
 fn shadow(rng: &mut Rng, reach: f64) -> f64 {
     match rng.below(4) {

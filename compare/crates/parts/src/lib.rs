@@ -1,5 +1,9 @@
 //! Does the parts of a run on some threads. What a part does must not depend on the thread.
 
+mod options;
+
+pub use options::numbers;
+
 use std::sync::Mutex;
 use std::sync::atomic::{AtomicBool, AtomicUsize, Ordering};
 use std::thread;

@@ -3,6 +3,7 @@
 #![no_std]
 
 mod answer;
+mod export;
 mod label;
 
 pub use answer::Answer;

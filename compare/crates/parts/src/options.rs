@@ -1,0 +1,19 @@
+//! The command line of a run.
+
+/// The values of options that are numbers. They stand in any order; one that is not given has the
+/// value beside its name.
+pub fn numbers<const N: usize>(
+    mut arguments: impl Iterator<Item = String>,
+    mut options: [(&str, u64); N],
+    usage: &str,
+) -> Result<[u64; N], String> {
+    while let Some(name) = arguments.next() {
+        let option = options.iter_mut().find(|(known, _)| *known == name);
+        let (_, number) = option.ok_or(usage)?;
+        let value = arguments.next().ok_or(usage)?;
+        *number = value
+            .parse()
+            .map_err(|_| format!("{value} is no number; {usage}"))?;
+    }
+    Ok(options.map(|(_, number)| number))
+}
