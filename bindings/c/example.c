@@ -1,6 +1,6 @@
 /* Prints what the recognisers find at each bar of a small history, then shows each refusal.
  *
- *   gcc -O2 -Wall -Wextra -Werror -std=c11 example.c -L../../target/staticlib -lrecognisers -o /tmp/jcc_example && /tmp/jcc_example
+ *   gcc -O2 -Wall -Wextra -Werror -std=c11 example.c -L../../target/staticlib -lrecognisers -o ../../target/jcc_example && ../../target/jcc_example
  */
 #include "jcc.h"
 

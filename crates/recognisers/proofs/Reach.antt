@@ -1,14 +1,14 @@
 -- The 22-bar reach, shown once over the recogniser: the pair over a history is the pair of its newest 22 bars up to the judged one, as a
 -- history by themselves; and of 12, whose gate reads len and the 20 bars that end third from the newest, the like with its gate.
 -- Assumes nothing.
-use Prim.Native.Nat.{ℕ, zero, suc, _≤_, min, max}
+use Prim.Native.Nat.{ℕ, _≤_, min}
 use mathlib.Core.Path.{_≡_, refl}
 use mathlib.Core.Bool.{Bool, true, false, cond}
 use mathlib.Core.List.{List, [], _∷_}
 use native.Mathlib.Omega.{arith}
 use borrow.Author.Tests.{ne-eqb, lt-ltb, le-ltb, ltb-true, ltb-false, leb-true, leb-false, le-leb, lt-leb}
 use lib.Dec.{ltb, leb}
-use lib.ListN.{length, getD}
+use lib.ListN.{length}
 use Rattle.measures.specs.declared.bars.Bar.{Bar}
 use Rattle.measures.specs.Window.{upTo, newest, windowOf}
 use Rattle.measures.proofs.WindowLaws.{window-reach, window-again, length-window, upTo-one}
@@ -17,23 +17,8 @@ use Rattle.recognisers.specs.declared.thresholds.Thresholds.{Thresholds}
 use Rattle.recognisers.specs.Label.{pairA}
 use Rattle.recognisers.specs.Number.{gated, reachBars, quarterBars, gateEnd, gateAbove, places, farthestLook}
 use Rattle.recognisers.specs.BarRule.{gateShut, threeCrow}
-use Rattle.recognisers.specs.Table.{Row, rows, rowOf, noRow, b1, b2, b3, judgeOf, pairAt}
-
--- ---- every p of the table is at most 22
-
--- the greatest p of a table
-abbrev most : List Row → ℕ
-most [] = 0
-most (r ∷ rs) = max (r .from) (most rs)
-
-at-most : (rs : List Row) (k : ℕ) → getD rs k noRow .from ≤ most rs
-at-most [] k = omega arith
-at-most (r ∷ rs) zero = omega arith
-at-most (r ∷ rs) (suc k) = omega (arith, at-most rs k)
-
-from-reaches : (k : ℕ) → rowOf k .from ≤ reachBars
-unfolding rowOf rows
-from-reaches k = let within : leb (most rows) reachBars ≡ true = refl in omega (arith, at-most rows k, leb-true (most rows) reachBars within)
+use Rattle.recognisers.specs.Table.{rows, rowOf, b1, b2, b3, judgeOf, pairAt}
+use Rattle.recognisers.proofs.TableLaws.{from-reaches}
 
 -- p up to 22 tells what a rule asks of p
 short-of : (p n : ℕ) → n ≤ reachBars → ltb (min reachBars p) n ≡ ltb p n

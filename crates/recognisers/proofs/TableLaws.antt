@@ -1,15 +1,15 @@
 -- The table of the recognisers: past its end the pair is A; only 12 reads its gate; over prices the pair is the history's.
 -- Assumes nothing.
-use Prim.Native.Nat.{ℕ, zero, suc, _+_, _<_, _≤_, zero-le}
+use Prim.Native.Nat.{ℕ, zero, suc, _+_, _<_, _≤_, max, zero-le}
 use native.Mathlib.Nat.{add-zero, zero-add, le-of-suc-le-suc, not-suc-le-zero}
 use native.Mathlib.Numerals.{add-one}
 use mathlib.Core.Path.{_≡_, refl, sym, _∙_, ap}
 use mathlib.Core.Bool.{Bool, true, false, cond}
 use mathlib.Core.List.{List, [], _∷_, _++_, map, append-assoc}
 use native.Mathlib.Omega.{arith}
-use borrow.Author.Tests.{eqb-false, ne-eqb, le-ltb}
+use borrow.Author.Tests.{leb-true, eqb-false, ne-eqb, le-ltb}
 use lib.Dec.{eqb, ltb, leb}
-use lib.ListN.{length, getD, take, drop, set, List·getD-eq-default}
+use lib.ListN.{length, getD, take, drop, set, take-append-drop, List·getD-eq-default}
 use lib.Seq.{drop-cons, set-at, take-suc, length-take-le}
 use Rattle.measures.specs.declared.bars.Bar.{Bar}
 use Rattle.measures.specs.Window.{windowOf}
@@ -47,6 +47,20 @@ short-at k h =
     sym (getD-map (λ (b : Bool). cond b pairB pairA) shortIsB k false pairA h)
     ∙ getD-map (λ (r : Row). r .short) rows k noRow pairA h
 
+-- every p of the table is at most 22: the greatest p of a table
+abbrev most : List Row → ℕ
+most [] = 0
+most (r ∷ rs) = max (r .from) (most rs)
+
+at-most : (rs : List Row) (k : ℕ) → getD rs k noRow .from ≤ most rs
+at-most [] k = omega arith
+at-most (r ∷ rs) zero = omega arith
+at-most (r ∷ rs) (suc k) = omega (arith, at-most rs k)
+
+pub from-reaches : (k : ℕ) → rowOf k .from ≤ reachBars
+unfolding rowOf rows
+from-reaches k = let within : leb (most rows) reachBars ≡ true = refl in omega (arith, at-most rows k, leb-true (most rows) reachBars within)
+
 -- the short pair below the p given, else what the rule gave; and so for each of a run of rows from k on
 abbrev pub shortOr : ℕ → ℕ → Pair → Pair
 shortOr p k full = cond (ltb p (rowOf k .from)) (rowOf k .short) full
@@ -68,6 +82,22 @@ shortOrs-at p k (full ∷ fulls) (suc i) d h = let e : k + suc i ≡ k + 1 + i =
 
 pub shortOrs-first : (p : ℕ) (fulls : List Pair) (i : ℕ) (d : Pair) → i < length fulls → getD (shortOrs p 0 fulls) i d ≡ shortOr p i (getD fulls i d)
 shortOrs-first p fulls i d h = rw zero-add at (shortOrs-at p 0 fulls i d h)
+
+-- from 22 bars on no pair is short
+shortOrs-deep : (p k : ℕ) (fulls : List Pair) → reachBars ≤ p → shortOrs p k fulls ≡ fulls
+unfolding shortOrs
+shortOrs-deep p k [] h = refl
+shortOrs-deep p k (full ∷ fulls) h = rw (le-ltb p (rowOf k .from) (omega (arith, from-reaches k)), shortOrs-deep p (k + 1) fulls h)
+
+pub short-start : (p : ℕ) (fulls : List Pair)
+    → (cond (leb reachBars p) recognisers 0 ≤ recognisers)
+    × (fulls ≡ take (cond (leb reachBars p) recognisers 0) (shortOrs p 0 fulls) ++ drop (cond (leb reachBars p) recognisers 0) fulls)
+short-start p fulls = go (leb reachBars p) refl
+  where
+    go : (t : Bool) → leb reachBars p ≡ t
+        → (cond t recognisers 0 ≤ recognisers) × (fulls ≡ take (cond t recognisers 0) (shortOrs p 0 fulls) ++ drop (cond t recognisers 0) fulls)
+    go true e = (omega arith, rw (shortOrs-deep p 0 fulls (leb-true reachBars p e)) (sym (take-append-drop recognisers fulls)))
+    go false e = (omega arith, refl)
 
 -- of all rules they are the pairs
 pub length-rules : (t : Thresholds) (len : ℕ) (deep : Bool) (w gate : List Bar) → length (rulesOf t len deep w gate) ≡ recognisers

@@ -1,10 +1,10 @@
 // The table of the eighteen: the choice of a recogniser by its number.
 ghost use mathlib.Core.Path.{_≡_};
 ghost use mathlib.Core.Bool.{cond};
-ghost use lib.Dec.{ltb};
+ghost use lib.Dec.{ltb, leb};
 ghost use Rattle.measures.specs.Bar.{barsOf};
 ghost use Prim.Native.Nat.{_<_};
-ghost use Rattle.recognisers.specs.Number.{recognisers};
+ghost use Rattle.recognisers.specs.Number.{recognisers, reachBars};
 ghost use Rattle.recognisers.specs.Table.{rowOf, ruleOf, judgeOf, pairAt, pairsAt, rulesOf, pairsOf};
 use crate::bar_rules;
 use crate::counts::GATE_END;
@@ -144,13 +144,20 @@ fn rules(t: Thresholds, len: usize, deep: bool, w: &[f64], gate: &[f64]) -> [Pai
     ]
 }
 
+// The first row that may be short of its p: from 22 bars on none is.
+fn first_short(p: usize) -> usize
+    ensures { λ r. ⌜ r ≡ cond (leb reachBars p) recognisers 0 ⌝ }
+{
+    if REACH_BARS <= p { 18 } else { 0 }
+}
+
 // Every recogniser over the same windows.
 fn pairs(t: Thresholds, len: usize, p: usize, w: &[f64], gate: &[f64]) -> [Pair; 18]
     ensures { λ r. ⌜ r ≡ pairsOf t len p (barsOf (now (w .entry))) (barsOf (now (gate .entry))) ⌝ }
 {
     let full = rules(t, len, p >= REACH_BARS, w, gate);
     let mut pairs = full;
-    let mut k = 0usize;
+    let mut k = first_short(p);
     while k < 18 {
         pairs[k] = row(k, p, full[k]);
         k += 1;

@@ -8,7 +8,7 @@ use lib.ListN.{length, take, drop, length-set, drop-of-length-le}
 use lib.Seq.{take-all}
 use Rattle.recognisers.specs.Label.{pairA}
 use Rattle.recognisers.specs.Table.{judgeOf, numbers, rulesOf, pairsOf}
-use Rattle.recognisers.proofs.TableLaws.{shortOrs, length-shortOrs, shortOrs-first, length-rules, shortOrs-rules, place-next}
+use Rattle.recognisers.proofs.TableLaws.{shortOrs, length-shortOrs, shortOrs-first, length-rules, shortOrs-rules, short-start, place-next}
 use Rattle.recognisers.proofs.table.pairs.Statement.{statement}
 use Rattle.recognisers.proofs.table.pairs.Tie as tie
 
@@ -20,8 +20,10 @@ abbrev μ-loop : tie.MeasureT-loop
 
 loop-holds : tie.Need-loop-holds Inv-loop μ-loop
 loop-holds c =
-    let n : length (c .rules .result) ≡ 18 = rw (c .rules .ensures) (length-rules _ _ _ _ _) in
-    (omega arith, n, n, refl)
+    let full = c .before .rules .result in
+    let n : length full ≡ 18 = rw (c .before .rules .ensures) (length-rules _ _ _ _ _) in
+    let at-start = rw (← c .first-short .ensures) at (short-start (c .before .before .before .before .args .p) full) in
+    (at-start .0, n, n, at-start .1)
 
 mul-row : tie.Need-mul-row Inv-loop μ-loop
 mul-row c = search needs
@@ -49,8 +51,8 @@ loop-again c =
     let at-loop = c .before .before .before in
     let inv = at-loop .loop .inv in
     let k = at-loop .loop .k in
-    let full = at-loop .before .rules .result in
-    let p = at-loop .before .before .before .before .args .p in
+    let full = at-loop .before .before .rules .result in
+    let p = at-loop .before .before .before .before .before .args .p in
     let inside : k < length full = omega (arith, inv .1) in
     (omega arith, inv .1, simp length-set (inv .2), rw (c .row .ensures, inv .3) (rw (shortOrs-first p full k pairA inside) at (place-next (shortOrs p 0 full) full k pairA (rw length-shortOrs inside) inside)))
 
@@ -58,11 +60,11 @@ returns : tie.Need-returns Inv-loop μ-loop
 returns c =
     let at-loop = c .before in
     let inv = at-loop .loop .inv in
-    let full = at-loop .before .rules .result in
-    let p = at-loop .before .before .before .before .args .p in
+    let full = at-loop .before .before .rules .result in
+    let p = at-loop .before .before .before .before .before .args .p in
     let e : at-loop .loop .k ≡ 18 = omega arith in
     let past : length full ≤ 18 = omega (arith, inv .1) in
-    inv .3 ∙ rw (e, take-all 18 (shortOrs p 0 full) (rw length-shortOrs (omega arith)), drop-of-length-le full past, append-nil, at-loop .before .rules .ensures) (shortOrs-rules _ _ _ _ _)
+    inv .3 ∙ rw (e, take-all 18 (shortOrs p 0 full) (rw length-shortOrs (omega arith)), drop-of-length-le full past, append-nil, at-loop .before .before .rules .ensures) (shortOrs-rules _ _ _ _ _)
 
 pub pairs-spec : {M : Type 1} → statement M
 pairs-spec =
@@ -70,6 +72,7 @@ pairs-spec =
     (tie.spec
     Inv-loop
     μ-loop
+    (λ c κs. tt)
     (λ c κs. tt)
     loop-holds
     mul-row

@@ -1,0 +1,69 @@
+// The labels' texts there and back, and bytes that are no label.
+use crate::printed::Printed;
+use crate::printed::first;
+use text::Text;
+use text::code_of_bytes;
+use text::code_of_text;
+use text::text_of;
+
+// A code, its text, how many bytes that has, and the code of it: again that code, or 38.
+fn write_code(code: u8) {
+    let text = text_of(code);
+    let bytes = text.bytes;
+    Printed::new()
+        .item(b"code ", code as u64)
+        .text(b": ")
+        .text(first(&bytes, text.len as usize))
+        .item(b",", text.len as u64)
+        .item(b",", code_of_text(text) as u64)
+        .end();
+}
+
+fn write_codes() {
+    let mut code = 0u8;
+    while code <= 38 {
+        write_code(code);
+        code += 1;
+    }
+    write_code(255);
+}
+
+fn write_bytes(s: &[u8]) {
+    Printed::new()
+        .text(b"code of ")
+        .text(s)
+        .item(b": ", code_of_bytes(s) as u64)
+        .end();
+}
+
+// The text 5K, of which so many bytes count.
+fn write_counted(len: u8) {
+    let bytes = *b"5K\0\0\0\0\0\0\0\0\0\0\0\0\0";
+    Printed::new()
+        .item(b"code of 5K with a count of ", len as u64)
+        .item(b": ", code_of_text(Text { bytes, len }) as u64)
+        .end();
+}
+
+// Parts of labels, and labels with a byte more.
+fn write_strings() {
+    write_bytes(b"");
+    write_bytes(b"5");
+    write_bytes(b"5k");
+    write_bytes(b"5KK");
+    // the first character of 其他
+    write_bytes(b"\xe5\x85\xb6");
+    // 其他 and a point
+    write_bytes(b"\xe5\x85\xb6\xe4\xbb\x96.");
+    // 看跌反击线 and a point, more than a text has room for
+    write_bytes(b"\xe7\x9c\x8b\xe8\xb7\x8c\xe5\x8f\x8d\xe5\x87\xbb\xe7\xba\xbf.");
+}
+
+pub fn write() {
+    write_codes();
+    write_strings();
+    write_counted(2);
+    write_counted(3);
+    write_counted(16);
+    write_counted(255);
+}

@@ -1,0 +1,101 @@
+// Holds document 01's text and the labels program's refusals to a file, which that program's own input cannot: it stops at its first
+// refusal. Each line of standard input is a case, a whole input of a session of its own. A line is written for each: the case's number;
+// what its text says, 0 and the prices' bits, or 8 and the place of the leftmost field that is no price; and what the session printed.
+// The cases are, in turn: good lines and other numbers of fields; a field that is bad alone, and two and more; lengths; signs; spaces;
+// other ways to write a number; nan; points; digits; zeros; and bytes that are no text.
+//
+// Then the labels' texts and the limits of a session, a line each. Every function is proved safe and ending; what is written is seen in
+// the file stdout, which the gate holds this program to.
+ghost use Prim.Native.Nat.{_≤_, _<_};
+ghost use lib.ListN.{length};
+
+mod labels;
+mod limits;
+mod printed;
+mod run;
+
+use label_lines::session;
+use libc::STDIN_FILENO;
+use measures::least;
+use printed::Printed;
+use printed::first;
+use printed::is_same;
+use recognisers::call::Verdict;
+use recognisers::call::refusal_number;
+use run::run;
+use text::Line;
+use text::line_text::line_verdict;
+use text::lines::piece_end;
+use text::read_line;
+
+const LINE_FEED: u8 = 10;
+
+// 0, or the number of the refusal.
+fn verdict_number(verdict: Verdict) -> u64 {
+    match verdict {
+        Verdict::Accepted => 0,
+        Verdict::Denied(why) => refusal_number(why) as u64,
+    }
+}
+
+// What a line says, behind its case's number.
+fn with_said(name: Printed, line: Line) -> Printed {
+    let judged = name.item(b":", verdict_number(line_verdict(line)));
+    match line {
+        Line::Prices(bar) => judged
+            .price(bar.open)
+            .price(bar.close)
+            .price(bar.high)
+            .price(bar.low),
+        Line::BadShape => judged,
+        Line::BadPrice(place) => judged.item(b",", place as u64),
+    }
+}
+
+// A second line for a case whose session prints something else if a line feed comes behind: an empty line is none at the input's end.
+fn write_fed(name: Printed, ended: Printed, case: &[u8]) {
+    let fed = run(session::begin(), case);
+    if !is_same(ended, fed) {
+        name.text(b", line feed:").lines(fed).write();
+    }
+}
+
+// The case comes with its line feed, unless the input's end cut that off.
+fn write_case(number: u64, case: &[u8]) {
+    let line = first(case, piece_end(LINE_FEED, case));
+    let name = Printed::new().number(number);
+    let ended = run(session::begin(), line);
+    with_said(name, read_line(line))
+        .text(b":")
+        .lines(ended)
+        .write();
+    write_fed(name, ended, case);
+}
+
+// Writes the case that begins at a place of the input, and answers the place behind it.
+fn write_next(number: u64, input: &[u8], at: usize) -> usize
+    requires { ⌜ at < length (now input) ⌝ }
+    ensures { λ r. ⌜ (at < r) × (r ≤ length (now (input .entry))) ⌝ }
+{
+    let rest = &input[at..];
+    let n = least(piece_end(LINE_FEED, rest), input.len() - at - 1) + 1;
+    write_case(number, first(rest, n));
+    at + n
+}
+
+fn write_cases(input: &[u8]) {
+    let mut number = 0u64;
+    let mut at = 0usize;
+    while at < input.len() {
+        number += 1;
+        at = write_next(number, input, at);
+    }
+}
+
+fn main() {
+    let mut input = io::large_buffer();
+    let n = io::read_full(STDIN_FILENO, &mut input);
+    write_cases(first(&input, n));
+    labels::write();
+    limits::write();
+}
