@@ -1,10 +1,11 @@
 -- Windows held by value: one bar more, what is left to gather, the window of a history, and the answer out of two windows. Assumes nothing.
 use Prim.Native.Nat.{ℕ, suc, _+_, _-_, _*_, _≤_, _<_, min}
 use mathlib.Core.Path.{_≡_, refl, ap, sym, _∙_}
-use mathlib.Core.Bool.{true}
+use mathlib.Core.Bool.{true, cond}
 use mathlib.Core.List.{List, [], _∷_, _++_, append-assoc, append-nil}
 use native.Mathlib.Omega.{arith}
 use native.Mathlib.Numerals.{unary-clauses}
+use lib.Dec.{eqb}
 use lib.ListN.{length, getD, set, take, drop, length-append}
 use lib.Seq.{sets, sets-eq, take-at, length-take-le}
 use lib.Ieee.{Float}
@@ -14,10 +15,12 @@ use Rattle.measures.specs.Window.{upTo, windowOf}
 use Rattle.measures.proofs.RunLaws.{from-bar}
 use Rattle.measures.proofs.WindowLaws.{window-part}
 use Rattle.recognisers.specs.declared.thresholds.Thresholds.{Thresholds}
+use Rattle.recognisers.specs.declared.label.Pair.{Pair}
 use Rattle.recognisers.specs.declared.call.Answer.the-variants.{Labels}
-use Rattle.recognisers.specs.Number.{reachBars, quarterBars, gateEnd}
+use Rattle.recognisers.specs.Number.{gated, reachBars, quarterBars, gateEnd}
 use Rattle.recognisers.specs.Table.{judgeOf, pairAt}
 use Rattle.recognisers.specs.Refusal.{answerTo, plainVerdict, plainAnswer}
+use Rattle.recognisers.proofs.TableLaws.{gate-enough}
 use Rattle.records.specs.declared.Window.{Window}
 use Rattle.records.specs.declared.Span.{Span}
 use Rattle.records.specs.Held.{barsIn}
@@ -34,7 +37,7 @@ bars-append n (o ∷ c ∷ h ∷ []) qs e = absurd (let z : ⊥ = omega arith in
 bars-append n (o ∷ c ∷ h ∷ l ∷ rest) qs e = ap (λ (bs : List Bar). barOf o c h l ∷ bs) (bars-append (n - 1) rest qs (omega arith))
 
 -- four prices stored behind those of n bars are one bar more
-pub bars-stored : (n : ℕ) (ps : List Float) (o c h l : Float) → 4 * n + 4 ≤ length ps
+bars-stored : (n : ℕ) (ps : List Float) (o c h l : Float) → 4 * n + 4 ≤ length ps
     → barsOf (take (4 * (n + 1)) (set (set (set (set ps (4 * n) o) (4 * n + 1) c) (4 * n + 2) h) (4 * n + 3) l)) ≡ barsOf (take (4 * n) ps) ++ barOf o c h l ∷ []
 unfolding barsOf
 bars-stored n ps o c h l fits =
@@ -46,6 +49,16 @@ bars-stored n ps o c h l fits =
     ap (λ (qs : List Float). barsOf (take (4 * (n + 1)) qs)) (stored ∙ sets-eq four ps (4 * n) fits)
     ∙ ap barsOf (take-at (before ++ four) (drop (4 * n + 4) ps) (4 * (n + 1)) front)
     ∙ bars-append n before four size
+
+-- a window with a bar more
+abbrev pub withBar : Window → Bar → Window
+withBar w b =
+    let at = 4 * w .count in
+    record { prices = set (set (set (set (w .prices) at (b .«open»)) (at + 1) (b .close)) (at + 2) (b .high)) (at + 3) (b .low); count = w .count + 1 }
+
+pub bar-more : (w : Window) (b : Bar) → 4 * w .count + 4 ≤ length (w .prices) → barsIn (withBar w b) ≡ barsIn w ++ b ∷ []
+unfolding barsIn
+bar-more w b fits = bars-stored (w .count) (w .prices) (b .«open») (b .close) (b .high) (b .low) fits
 
 -- ---- what is left to gather, of the bars before a place
 
@@ -76,8 +89,10 @@ window-gathered r w s bars di n none at got =
 
 -- ---- the answer
 
--- the answer out of the windows of a history is the plain call's
-pub answer-held : (k di : ℕ) (t : Thresholds) (bars : List Bar) (w gate : Window) → let len = length bars in barsIn w ≡ windowOf bars di reachBars → barsIn gate ≡ windowOf bars gateEnd quarterBars
-    → answerTo (plainVerdict k di t true len) (Labels (judgeOf k t len (upTo len di) (barsIn w) (barsIn gate))) ≡ plainAnswer k di t true bars
+-- the answer out of the windows of a history is the plain call's; a recogniser without a gate has an empty one
+pub answer-held : (k di : ℕ) (t : Thresholds) (bars : List Bar) (w gate : Window) (n : ℕ) → let len = length bars in n ≡ cond (eqb k gated) quarterBars 0 → barsIn w ≡ windowOf bars di reachBars
+    → barsIn gate ≡ windowOf bars gateEnd n → answerTo (plainVerdict k di t true len) (Labels (judgeOf k t len (upTo len di) (barsIn w) (barsIn gate))) ≡ plainAnswer k di t true bars
 unfolding plainAnswer pairAt
-answer-held k di t bars w gate e f = rw (e, f)
+answer-held k di t bars w gate n c e f =
+    let len = length bars in
+    rw (e, f, c) (ap (λ (pair : Pair). answerTo (plainVerdict k di t true len) (Labels pair)) (gate-enough k t len (upTo len di) (windowOf bars di reachBars) bars))

@@ -47,30 +47,27 @@ fn empty() -> Window
     }
 }
 
-// One bar more.
-fn push(mut w: Window, b: Bar) -> Window
-    requires { ⌜ w .count < reachBars ⌝ }
-    ensures { λ r. ⌜ (r .count ≡ w .count + 1) × (barsIn r ≡ barsIn w ++ b ∷ []) ⌝ }
-{
-    let at = 4 * w.count;
-    w.prices[at] = b.open;
-    w.prices[at + 1] = b.close;
-    w.prices[at + 2] = b.high;
-    w.prices[at + 3] = b.low;
-    w.count += 1;
-    w
-}
-
-// The window with the bars from a place on, up to the one before another.
-fn gathered(bars: &[Bar], mut i: usize, to: usize, mut w: Window) -> Window
+// The window with the bars from a place on, up to the one before another. No value of a window's size is copied in a turn.
+fn gathered(bars: &[Bar], mut i: usize, to: usize, w: Window) -> Window
     requires { ⌜ (to ≤ length (now bars)) × (w .count + (to - i) ≤ reachBars) ⌝ }
     ensures { λ r. ⌜ (r .count ≡ w .count + (to - i)) × (barsIn r ≡ barsIn w ++ take (to - i) (drop i (now (bars .entry)))) ⌝ }
 {
+    let mut prices = w.prices;
+    let mut count = w.count;
     while i < to {
-        w = push(w, bars[i]);
+        let b = bars[i];
+        let at = 4 * count;
+        prices[at] = b.open;
+        prices[at + 1] = b.close;
+        prices[at + 2] = b.high;
+        prices[at + 3] = b.low;
+        count += 1;
         i += 1;
     }
-    w
+    Window {
+        prices: prices,
+        count: count,
+    }
 }
 
 // Where the last n bars up to the judged one are.
@@ -122,7 +119,7 @@ pub fn recognise_bars(k: u32, di: u32, t: Thresholds, bars: &[Bar]) -> Answer
     ensures { λ r. ⌜ r ≡ plainAnswer k di t true (now (bars .entry)) ⌝ }
 {
     let w = window_of(bars, di as usize, counts::REACH_BARS);
-    let gate = window_of(bars, counts::GATE_END, counts::QUARTER_BARS);
+    let gate = window_of(bars, counts::GATE_END, export::gate_bars(k));
     answer(k, di, t, bars.len(), w, gate)
 }
 
