@@ -18,7 +18,7 @@ use Rattle.recognisers.specs.Threshold.{standardSet}
 use Rattle.bar_box.specs.declared.boxes.BarBox.{BarBox}
 use Rattle.bar_box.specs.Sheet.{before, rowOf}
 use Rattle.bar_box.specs.Box.{freshBox, takenIn, feedVerdict, fedOf, sheetOf}
-use Rattle.bar_box.specs.History.{Feed, verdictOn, NoBars}
+use Rattle.bar_box.specs.History.{Feed, verdictOn, pricesOf, NoBars}
 use Rattle.bar_box.proofs.SheetLaws.{length-row, rows-one, rows-near}
 use Rattle.bar_box.proofs.BoxLaws.{newest-newest}
 use Rattle.bar_box.proofs.FeedSteps.{accepts, count-after, kept-after, verdict-step, box-step}
@@ -28,7 +28,7 @@ use Rattle.text.specs.declared.line_text.Line.{Line}
 use Rattle.text.specs.declared.line_text.Line.the-variants.{Prices, BadShape, BadPrice}
 use Rattle.text.specs.LineText.{lineOf}
 use Rattle.text.specs.Lines.{linesOf}
-use Rattle.label_lines.specs.Output.{refusalLine, pricesOf, fedStep, readStep, stepOf, printedOf, outputOf}
+use Rattle.label_lines.specs.Output.{refusalLine, fedStep, readStep, stepOf, printedOf, outputOf}
 use Rattle.label_lines.specs.History.{newestLines, historyPrints}
 use Rattle.label_lines.proofs.SessionLaws.{fed-refused, fed-accepted}
 
@@ -52,23 +52,24 @@ module _ (h : List Bar) (bar : Bar) where
 
   -- what its feed is lent
   abbrev feed : Feed
-  feed = record { prices = pricesOf bar; sheet = replicate rowBytes 0 }
+  feed = record { prices = pricesOf (bar ∷ []); sheet = replicate rowBytes 0 }
 
   -- up to the most bars it is accepted
   module _ (few : length h + 1 ≤ mostBars) where
     accepted : verdictOn standardSet h feed ≡ Accepted
+    unfolding pricesOf
     accepted = accepts standardSet (length h) 4 rowBytes (record { valid = standard-valid; whole = refl; few = few; room = omega arith })
 
-    fed : fedOf (boxOf h) (pricesOf bar) rowBytes .verdict ≡ Accepted
+    fed : fedOf (boxOf h) (pricesOf (bar ∷ [])) rowBytes .verdict ≡ Accepted
     fed = verdict-step fresh start h feed ∙ accepted
 
-    after : fedOf (boxOf h) (pricesOf bar) rowBytes .after ≡ boxOf more
-    unfolding barsOf
+    after : fedOf (boxOf h) (pricesOf (bar ∷ [])) rowBytes .after ≡ boxOf more
+    unfolding barsOf pricesOf
     after = box-step fresh start h feed ∙ rw accepted
 
     -- the sheet is its row over the whole history
-    row : sheetOf (boxOf h) (pricesOf bar) (replicate rowBytes 0) ≡ rowOf standardSet (length h + 1) more
-    unfolding sheetOf barsOf
+    row : sheetOf (boxOf h) (pricesOf (bar ∷ [])) (replicate rowBytes 0) ≡ rowOf standardSet (length h + 1) more
+    unfolding sheetOf barsOf pricesOf
     row =
         let near = rows-near standardSet (length h) (newest places h) h (bar ∷ []) (newest-newest places before h (omega arith)) in
         rw (kept-after fresh start h, count-after fresh start h, accepted, near, rows-one standardSet (length h) h bar, length-row standardSet (length h + 1) more)
@@ -79,7 +80,7 @@ module _ (h : List Bar) (bar : Bar) where
 
   -- past them it is refused
   fed-past : length h ≡ mostBars → fedStep (boxOf h) bar ≡ record { printed = refusalLine (length h + 1) TooManyBars; after = boxOf h; stops = true }
-  unfolding feedVerdict firstTrue
+  unfolding feedVerdict firstTrue pricesOf
   fed-past most =
       let past : verdictOn standardSet h feed ≡ Denied TooManyBars = simp (standard-valid, lt-ltb mostBars (length h + 1) (omega arith)) in
       fed-refused (boxOf h) bar _ refl TooManyBars (verdict-step fresh start h feed ∙ past) ∙ rw (count-after fresh start h)

@@ -18,11 +18,12 @@ use Rattle.recognisers.specs.Number.{longestLine, rowBytes}
 use Rattle.bar_box.specs.declared.boxes.BarBox.{BarBox}
 use Rattle.bar_box.specs.declared.boxes.Outcome.{Outcome}
 use Rattle.bar_box.specs.Box.{fedOf, sheetOf}
+use Rattle.bar_box.specs.History.{pricesOf}
 use Rattle.text.specs.PriceText.{runOf}
 use Rattle.text.specs.Lines.{lineFeed, pieceEnd, keptLine}
 use Rattle.text.proofs.LineLaws.{line-kept}
 use Rattle.text.proofs.RunLaws.{both, all-pass, run-taken}
-use Rattle.label_lines.specs.Output.{rowLines, refusalLine, pricesOf, fedStep, stepOf}
+use Rattle.label_lines.specs.Output.{rowLines, refusalLine, fedStep, stepOf}
 use Rattle.label_lines.specs.Session.{State, ended, grown, byteLeaves, bytePrints, leaves, prints, endPrints}
 
 -- ---- one behind the other
@@ -143,13 +144,13 @@ with-feed (b ∷ bs) h = go (eqb b lineFeed) refl (λ g. with-feed bs g) h
     go false e rest h = rw (add-one (suc (pieceEnd lineFeed bs))) (ap (λ (l : List ℕ). b ∷ l) (rw add-one at (rest (omega arith))))
 
 -- ---- a fed bar, by the verdict of its feed
-module _ (b : BarBox) (bar : Bar) (o : Outcome) (e : o ≡ fedOf b (pricesOf bar) rowBytes) where
+module _ (b : BarBox) (bar : Bar) (o : Outcome) (e : o ≡ fedOf b (pricesOf (bar ∷ [])) rowBytes) where
   pub fed-refused : (r : Refusal) → o .verdict ≡ Denied r → fedStep b bar ≡ record { printed = refusalLine (b .count + 1) r; after = b; stops = true }
   unfolding fedStep
   fed-refused r d = rw (← e, d)
 
   pub fed-accepted : o .verdict ≡ Accepted
-      → fedStep b bar ≡ record { printed = rowLines (b .count + 1) 0 (sheetOf b (pricesOf bar) (replicate rowBytes 0)); after = o .after; stops = false }
+      → fedStep b bar ≡ record { printed = rowLines (b .count + 1) 0 (sheetOf b (pricesOf (bar ∷ [])) (replicate rowBytes 0)); after = o .after; stops = false }
   unfolding fedStep
   fed-accepted a = rw (← e, a)
 

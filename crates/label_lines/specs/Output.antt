@@ -4,7 +4,6 @@ use mathlib.Core.Bool.{Bool, true, false, cond}
 use mathlib.Core.List.{List, [], _∷_, _++_}
 use lib.Dec.{ltb, eqb}
 use lib.ListN.{replicate}
-use lib.Ieee.{Float}
 use Rattle.io.specs.Digits.{digits}
 use Rattle.measures.specs.declared.bars.Bar.{Bar}
 use Rattle.recognisers.specs.declared.call.Refusal.{Refusal}
@@ -16,6 +15,7 @@ use Rattle.recognisers.specs.Threshold.{standardSet}
 use Rattle.bar_box.specs.declared.boxes.BarBox.{BarBox}
 use Rattle.bar_box.specs.declared.boxes.Outcome.{Outcome}
 use Rattle.bar_box.specs.Box.{freshBox, fedOf, sheetOf}
+use Rattle.bar_box.specs.History.{pricesOf}
 use Rattle.text.specs.declared.line_text.Line.{Line}
 use Rattle.text.specs.declared.line_text.Line.the-variants.{Prices, BadShape, BadPrice}
 use Rattle.text.specs.LabelText.{bytesOf}
@@ -63,10 +63,6 @@ pub record Step : Type 0 where
   pub after : BarBox
   pub stops : Bool
 
--- the four prices of a bar, as a feed is lent them
-abbrev pub pricesOf : Bar → List Float
-pricesOf b = b .«open» ∷ b .close ∷ b .high ∷ b .low ∷ []
-
 -- an accepted bar prints its rows, a refused one the refusal, and stops; the ordinal is one more than the bars before
 abbrev pub judgedOf : Verdict → BarBox → List ℕ → BarBox → Step
 judgedOf Accepted b sheet after = record { printed = rowLines (b .count + 1) 0 sheet; after = after; stops = false }
@@ -75,7 +71,7 @@ judgedOf (Denied r) b sheet after = record { printed = refusalLine (b .count + 1
 -- a bar is fed by itself, with a sheet for its row
 unfoldable pub fedStep : BarBox → Bar → Step
 fedStep b bar =
-    judgedOf (fedOf b (pricesOf bar) rowBytes .verdict) b (sheetOf b (pricesOf bar) (replicate rowBytes 0)) (fedOf b (pricesOf bar) rowBytes .after)
+    judgedOf (fedOf b (pricesOf (bar ∷ [])) rowBytes .verdict) b (sheetOf b (pricesOf (bar ∷ [])) (replicate rowBytes 0)) (fedOf b (pricesOf (bar ∷ [])) rowBytes .after)
 
 -- a line is read as text first, then fed as one bar
 abbrev pub readStep : BarBox → Line → Step

@@ -11,10 +11,8 @@ ghost use Rattle.label_lines.specs.Output.{numeral, field, rowLine, rowL
 use recognisers::Refusal;
 use recognisers::call::refusal_number;
 use text::label_text;
-
-const COMMA: u8 = 44;
-
-const LINE_FEED: u8 = 10;
+use text::line_text::COMMA;
+use text::lines::LINE_FEED;
 
 // Bytes and the one that ends them.
 fn write_field(s: &[u8], end: u8, out: &mut [u8], at: usize) -> usize

@@ -19,8 +19,7 @@ use recognisers::call::Verdict;
 use text::Line;
 use text::Partial;
 use text::lines;
-
-const LINE_FEED: u8 = 10;
+use text::lines::LINE_FEED;
 
 // The room for what a line may print: eighteen rows.
 const ROOM: usize = 1332;

@@ -25,10 +25,9 @@ use recognisers::call::refusal_number;
 use run::run;
 use text::Line;
 use text::line_text::line_verdict;
+use text::lines::LINE_FEED;
 use text::lines::piece_end;
 use text::read_line;
-
-const LINE_FEED: u8 = 10;
 
 // 0, or the number of the refusal.
 fn verdict_number(verdict: Verdict) -> u64 {

@@ -18,7 +18,8 @@ pub enum Line {
     BadPrice(u8),
 }
 
-const COMMA: u8 = 44;
+// What stands between two fields.
+pub const COMMA: u8 = 44;
 
 // The longest line.
 const LONGEST: usize = 80;

@@ -10,6 +10,9 @@ use crate::line_text;
 use crate::line_text::Line;
 use measures::least;
 
+// What ends a line.
+pub const LINE_FEED: u8 = 10;
+
 // How many bytes of s come before the first separator: all, if it has none.
 pub fn piece_end(separator: u8, s: &[u8]) -> usize
     ensures { λ r. ⌜ (r ≡ pieceEnd separator (now (s .entry))) × (r ≤ length (now (s .entry))) ⌝ }

@@ -1,5 +1,6 @@
 use mathlib.Core.Path.{refl}
 use borrow.Author.Needs.{needs}
+use Rattle.bar_box.specs.History.{pricesOf}
 use Rattle.label_lines.proofs.SessionLaws.{fed-refused, fed-accepted}
 use Rattle.label_lines.proofs.session.feed_bar.Statement.{statement}
 use Rattle.label_lines.proofs.session.feed_bar.Tie as tie
@@ -55,6 +56,7 @@ same-length c = search needs
 
 -- src/session.rt:78:1
 returns : tie.Need-returns
+unfolding pricesOf
 returns c =
     let fed = c .before .before .before .before .before .before .before .before in
     let args = fed .before .before .before .before .args in
@@ -67,6 +69,7 @@ same-length-2 c = search needs
 
 -- src/session.rt:78:1
 returns-2 : tie.Need-returns-2
+unfolding pricesOf
 returns-2 c =
     let fed = c .before .before .before .before .before .before .before .before .before .before in
     let args = fed .before .before .before .before .args in
