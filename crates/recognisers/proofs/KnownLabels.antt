@@ -11,14 +11,14 @@ use Rattle.measures.specs.Price.{maxOf, minOf, absOf, squareOf}
 use Rattle.measures.specs.Bar.{barOf, bodyOf, upperOf, lowerOf, dojiOf}
 use Rattle.measures.specs.Window.{upTo, newest, windowOf, backOf}
 use Rattle.measures.specs.Fold.{columnOf, highestOf, lowestOf, sumOf, sizeOf, meanOf, varianceOf, everyOf, extremesOf}
-use Rattle.recognisers.specs.declared.label.Label.the-variants.{Other, Any, Met, RisingThreeMethods, Bars5, Bearish, Bottom, Top, Regular}
-use Rattle.recognisers.specs.declared.label.Pair.{Pair}
-use Rattle.recognisers.specs.Number.{wholeOf, aHundred}
-use Rattle.recognisers.specs.Label.{pairOf}
+use Rattle.rule_types.specs.declared.label.Label.the-variants.{Other, Any, Met, RisingThreeMethods, Bars5, Bearish, Bottom, Top, Regular}
+use Rattle.rule_types.specs.declared.label.Pair.{Pair}
+use Rattle.rule_types.specs.Number.{wholeOf, aHundred}
+use Rattle.rule_types.specs.Label.{pairOf}
 use Rattle.recognisers.specs.Threshold.{standardSet}
-use Rattle.recognisers.specs.QuarterRule.{quarterOf, cutOf, umbrellaOf, sanXingXian, tenMo, fenShouXian}
-use Rattle.recognisers.specs.BarRule.{longShadow, yunXian, flatOf, pingTou, twoCrow, gateShut, crowPair, threeCrow, dojiKind, northernOf, szx}
-use Rattle.recognisers.specs.GrowingRule.{sizes, sizeLabel, firstMatch, firstOf, lastOf, innerOf, risesOf, fallsOf, threeMethods, sanFaV20221118, insertOf, bodiesDown, bodiesKnown, endsLead, topOf, bottomOf, tower, taXing}
+use Rattle.quarter_rules.specs.QuarterRule.{quarterOf, cutOf, umbrellaOf, sanXingXian, tenMo, fenShouXian}
+use Rattle.bar_rules.specs.BarRule.{longShadow, yunXian, flatOf, pingTou, twoCrow, gateShut, crowPair, threeCrow, dojiKind, northernOf, szx}
+use Rattle.growing_rules.specs.GrowingRule.{sizes, sizeLabel, firstMatch, firstOf, lastOf, innerOf, risesOf, fallsOf, threeMethods, sanFaV20221118, insertOf, bodiesDown, bodiesKnown, endsLead, topOf, bottomOf, tower, taXing}
 use Rattle.recognisers.specs.Table.{rows, rowOf, judgeOf, pairAt}
 
 pub bar : ℕ → ℕ → ℕ → ℕ → Bar

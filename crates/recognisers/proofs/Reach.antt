@@ -12,11 +12,11 @@ use lib.ListN.{length}
 use Rattle.measures.specs.declared.bars.Bar.{Bar}
 use Rattle.measures.specs.Window.{upTo, newest, windowOf}
 use Rattle.measures.proofs.WindowLaws.{window-reach, window-again, length-window, upTo-one}
-use Rattle.recognisers.specs.declared.label.Pair.{Pair}
+use Rattle.rule_types.specs.declared.label.Pair.{Pair}
 use Rattle.recognisers.specs.declared.thresholds.Thresholds.{Thresholds}
-use Rattle.recognisers.specs.Label.{pairA}
-use Rattle.recognisers.specs.Number.{gated, reachBars, quarterBars, gateEnd, gateAbove, places, farthestLook}
-use Rattle.recognisers.specs.BarRule.{gateShut, threeCrow}
+use Rattle.rule_types.specs.Label.{pairA}
+use Rattle.rule_types.specs.Number.{gated, reachBars, quarterBars, gateEnd, gateAbove, places, farthestLook}
+use Rattle.bar_rules.specs.BarRule.{gateShut, threeCrow}
 use Rattle.recognisers.specs.Table.{rows, rowOf, b1, b2, b3, judgeOf, pairAt}
 use Rattle.recognisers.proofs.TableLaws.{from-reaches}
 

@@ -13,11 +13,11 @@ use lib.ListN.{length, getD, take, drop, set, take-append-drop, List·getD-eq-de
 use lib.Seq.{drop-cons, set-at, take-suc, length-take-le}
 use Rattle.measures.specs.declared.bars.Bar.{Bar}
 use Rattle.measures.specs.Window.{windowOf}
-use Rattle.recognisers.specs.declared.label.Pair.{Pair}
+use Rattle.rule_types.specs.declared.label.Pair.{Pair}
 use Rattle.recognisers.specs.declared.thresholds.Thresholds.{Thresholds}
-use Rattle.recognisers.specs.Label.{pairA, pairB}
-use Rattle.recognisers.specs.Number.{recognisers, gated, reachBars, quarterBars, gateEnd}
-use Rattle.recognisers.specs.BarRule.{gateShut}
+use Rattle.rule_types.specs.Label.{pairA, pairB}
+use Rattle.rule_types.specs.Number.{recognisers, gated, reachBars, quarterBars, gateEnd}
+use Rattle.bar_rules.specs.BarRule.{gateShut}
 use Rattle.recognisers.specs.Table.{Row, rows, rowOf, noRow, ruleOf, judgeOf, numbers, rulesOf, pairsOf}
 
 past-table : (k : ℕ) → recognisers ≤ k → rowOf k ≡ noRow

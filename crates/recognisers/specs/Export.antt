@@ -6,10 +6,10 @@ use lib.ListN.{length, getD, take, drop}
 use lib.Ieee.{Float, binary64, ofBits}
 use Rattle.measures.specs.Bar.{barsOf}
 use Rattle.recognisers.specs.declared.thresholds.Thresholds.{Thresholds}
-use Rattle.recognisers.specs.declared.label.Pair.{Pair}
+use Rattle.rule_types.specs.declared.label.Pair.{Pair}
 use Rattle.recognisers.specs.declared.call.Answer.{Answer}
 use Rattle.recognisers.specs.declared.call.Answer.the-variants.{Labels, Refused}
-use Rattle.recognisers.specs.Label.{codeOf}
+use Rattle.rule_types.specs.Label.{codeOf}
 use Rattle.recognisers.specs.Refusal.{refusalNumber, plainAnswer}
 
 -- the number that bytes stand for, least significant first

@@ -3,9 +3,6 @@
 pub mod Number
 pub mod Label
 pub mod Threshold
-pub mod QuarterRule
-pub mod BarRule
-pub mod GrowingRule
 pub mod Table
 pub mod Refusal
 pub mod Export

@@ -15,7 +15,7 @@ use Rattle.recognisers.specs.declared.call.Verdict.the-variants.{Accepte
 use Rattle.recognisers.specs.declared.call.Answer.{Answer}
 use Rattle.recognisers.specs.declared.call.Answer.the-variants.{Labels, Refused}
 use Rattle.recognisers.specs.Threshold.{validOf}
-use Rattle.recognisers.specs.Number.{recognisers, rowBytes, mostBars, farthestLook, longestLine}
+use Rattle.rule_types.specs.Number.{recognisers, rowBytes, mostBars, farthestLook, longestLine}
 use Rattle.recognisers.specs.Table.{pairAt, codesOf}
 
 -- ---- the numbers

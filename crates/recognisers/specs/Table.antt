@@ -8,13 +8,13 @@ use Rattle.measures.specs.declared.bars.Bar.{Bar}
 use Rattle.measures.specs.declared.folds.Column.the-variants.{Close}
 use Rattle.measures.specs.Window.{upTo, windowOf, backOf}
 use Rattle.measures.specs.Fold.{columnOf, highestOf}
-use Rattle.recognisers.specs.declared.label.Pair.{Pair}
+use Rattle.rule_types.specs.declared.label.Pair.{Pair}
 use Rattle.recognisers.specs.declared.thresholds.Thresholds.{Thresholds}
-use Rattle.recognisers.specs.Label.{codeOf, pairA, pairB}
-use Rattle.recognisers.specs.Number.{recognisers, gated, reachBars, quarterBars, gateEnd}
-use Rattle.recognisers.specs.QuarterRule.{quarterOf, quarterExtremes, sanXingXian, tenMo, fenShouXian, zhuHuoXian, fanJiXian}
-use Rattle.recognisers.specs.BarRule.{wuYunGaiDing, ciTou, sanFaV20221115, xingXian, yunXian, pingTou, twoCrow, gateShut, threeCrow, szx, sanSzx, gapYinYang}
-use Rattle.recognisers.specs.GrowingRule.{sanFaV20221118, taXing}
+use Rattle.rule_types.specs.Label.{codeOf, pairA, pairB}
+use Rattle.rule_types.specs.Number.{recognisers, gated, reachBars, quarterBars, gateEnd}
+use Rattle.quarter_rules.specs.QuarterRule.{quarterOf, quarterExtremes, sanXingXian, tenMo, fenShouXian, zhuHuoXian, fanJiXian}
+use Rattle.bar_rules.specs.BarRule.{tenCloses, wuYunGaiDing, ciTou, sanFaV20221115, xingXian, yunXian, pingTou, twoCrow, gateShut, threeCrow, szx, sanSzx, gapYinYang}
+use Rattle.growing_rules.specs.GrowingRule.{sanFaV20221118, taXing}
 
 -- a recogniser: the p from which its rule holds, the short pair below that p, and the rule, over the thresholds, whether p is 22 or
 -- more, and the window of the last 22 bars up to the judged one
@@ -44,10 +44,6 @@ b5 w = backOf w 5
 
 abbrev pub b6 : List Bar → Bar
 b6 w = backOf w 6
-
--- the ten bars that end before b2, of whose closes 2 reads the highest
-abbrev pub tenCloses : List Bar → List Bar
-tenCloses w = windowOf w 3 10
 
 -- the rows in the order of the numbers
 unfoldable pub rows : List Row

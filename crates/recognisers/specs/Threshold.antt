@@ -5,7 +5,7 @@ use lib.Dec.{leb}
 use lib.Ieee.{Float, le}
 use Rattle.measures.specs.Price.{zero}
 use Rattle.recognisers.specs.declared.thresholds.Thresholds.{Thresholds}
-use Rattle.recognisers.specs.Number.{two, tenThousand, mostWhole}
+use Rattle.rule_types.specs.Number.{two, tenThousand, mostWhole}
 
 abbrev pub thresholdsOf : Float → ℕ → ℕ → ℕ → ℕ → ℕ → ℕ → ℕ → Float → ℕ → ℕ → ℕ → ℕ → Thresholds
 thresholdsOf th0 z2 th2 z3 th3 zdf5 th6 zdf7 th8 zf8 th10 th13 th14 =

@@ -1,13 +1,8 @@
-// Eighteen recognisers of candlestick patterns, the choice of one by its number, the plain call over lent prices, and the export
-// for a host program. All is proved, nothing is assumed, and no public function has a `requires`: each contract is an equation
-// with a definition of specs/, for every input.
-pub mod bar_rules;
+// Eighteen recognisers of candlestick patterns: thresholds, the choice of a recogniser by its number, the plain call over lent prices, and
+// the export for a host program; labels and the rules' numbers are passed on from the crates below. All is proved, nothing is assumed, and
+// no public function has a `requires`: each contract is an equation with a definition of specs/, for every input.
 pub mod call;
-pub mod counts;
 pub mod export;
-pub mod growing_rules;
-pub mod label;
-pub mod quarter_rules;
 pub mod table;
 pub mod thresholds;
 
@@ -15,6 +10,8 @@ pub use call::Answer;
 pub use call::Refusal;
 pub use call::recognise;
 pub use export::jcc_label;
-pub use label::Label;
-pub use label::Pair;
+pub use rule_types::counts;
+pub use rule_types::label;
+pub use rule_types::label::Label;
+pub use rule_types::label::Pair;
 pub use thresholds::Thresholds;

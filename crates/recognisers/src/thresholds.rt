@@ -1,7 +1,7 @@
 // The thresholds of the recognisers.
 ghost use mathlib.Core.Path.{_≡_};
 ghost use Rattle.recognisers.specs.Threshold.{thresholdsOf, standardSet, floatWithin, wholeWithin, validOf};
-use crate::counts::MOST_WHOLE;
+use rule_types::counts::MOST_WHOLE;
 
 // The digit at the end of a name is the recogniser's number.
 pub struct Thresholds {

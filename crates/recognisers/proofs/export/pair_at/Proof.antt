@@ -4,7 +4,7 @@ use borrow.Author.Needs.{needs}
 use lib.ListN.{length-take}
 use Rattle.measures.specs.Bar.{barsOf}
 use Rattle.measures.specs.Window.{windowOf}
-use Rattle.recognisers.specs.Number.{reachBars}
+use Rattle.rule_types.specs.Number.{reachBars}
 use Rattle.recognisers.specs.Table.{pairAt}
 use Rattle.recognisers.specs.Export.{pricesOf}
 use Rattle.recognisers.proofs.ByteLaws.{length-history}

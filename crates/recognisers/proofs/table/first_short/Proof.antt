@@ -1,6 +1,6 @@
 -- The test is the definition's. Assumes nothing.
 use borrow.Author.Tests.{le-leb, lt-leb}
-use Rattle.recognisers.specs.Number.{reachBars}
+use Rattle.rule_types.specs.Number.{reachBars}
 use Rattle.recognisers.proofs.table.first_short.Statement.{statement}
 use Rattle.recognisers.proofs.table.first_short.Tie as tie
 

@@ -6,7 +6,7 @@ use native.Mathlib.Omega.{arith}
 use borrow.Author.Needs.{needs}
 use lib.ListN.{length, take, drop, length-set, drop-of-length-le}
 use lib.Seq.{take-all}
-use Rattle.recognisers.specs.Label.{pairA}
+use Rattle.rule_types.specs.Label.{pairA}
 use Rattle.recognisers.specs.Table.{judgeOf, numbers, rulesOf, pairsOf}
 use Rattle.recognisers.proofs.TableLaws.{shortOrs, length-shortOrs, shortOrs-first, length-rules, shortOrs-rules, short-start, place-next}
 use Rattle.recognisers.proofs.table.pairs.Statement.{statement}

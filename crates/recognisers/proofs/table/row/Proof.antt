@@ -4,7 +4,7 @@ use mathlib.Core.Bool.{cond}
 use mathlib.Core.Path.{_≡_, _∙_, ap}
 use borrow.Author.Needs.{needs}
 use lib.Dec.{ltb}
-use Rattle.recognisers.specs.Number.{recognisers}
+use Rattle.rule_types.specs.Number.{recognisers}
 use Rattle.recognisers.specs.Table.{rows, rowOf, noRow}
 use Rattle.recognisers.proofs.TableLaws.{from-at, short-at}
 use Rattle.recognisers.proofs.table.row.Statement.{statement}

@@ -1,7 +1,7 @@
 -- Each element is the rule of the row that has its number. Assumes nothing.
 use mathlib.Core.Path.{_≡_, refl}
 use Rattle.measures.specs.Bar.{barsOf}
-use Rattle.recognisers.specs.QuarterRule.{quarterOf}
+use Rattle.quarter_rules.specs.QuarterRule.{quarterOf}
 use Rattle.recognisers.specs.Table.{rowOf, rows, numbers, ruleOf, rulesOf}
 use Rattle.recognisers.proofs.TableLaws.{both}
 use Rattle.recognisers.proofs.table.rules.Statement.{statement}

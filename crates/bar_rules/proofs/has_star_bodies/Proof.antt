@@ -1,0 +1,26 @@
+-- The code is the definition.
+use Rattle.bar_rules.specs.BarRule.{starBodies}
+use borrow.Author.Needs.{needs}
+use Rattle.bar_rules.proofs.has_star_bodies.Statement.{statement}
+use Rattle.bar_rules.proofs.has_star_bodies.Tie as tie
+
+int-to-float-result : tie.Need-int-to-float-result
+int-to-float-result c = search needs
+
+returns : tie.Need-returns
+unfolding starBodies
+returns c =
+    simp (
+      c .body3 .ensures,
+      c .before .before .body2 .ensures,
+      c .before .before .before .body .ensures,
+    )
+
+pub has-star-bodies-spec : {M : Type 1} → statement M
+has-star-bodies-spec =
+    tie.close (tie.spec
+    (λ c κs. tt)
+    (λ c κs. tt)
+    int-to-float-result
+    (λ c κs. tt)
+    returns)

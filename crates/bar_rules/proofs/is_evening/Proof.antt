@@ -1,0 +1,18 @@
+-- The code is the definition.
+use Rattle.bar_rules.specs.BarRule.{eveningOf}
+use Rattle.bar_rules.proofs.is_evening.Statement.{statement}
+use Rattle.bar_rules.proofs.is_evening.Tie as tie
+
+returns : tie.Need-returns
+unfolding eveningOf
+returns c =
+    simp (
+      c .before .min .ensures,
+      c .before .before .before .has-star-bodies .ensures,
+    )
+
+pub is-evening-spec : {M : Type 1} → statement M
+is-evening-spec = tie.close (tie.spec
+    (λ c κs. tt)
+    (λ c κs. tt)
+    returns)

@@ -1,0 +1,18 @@
+-- The code is the definition.
+use Rattle.bar_rules.specs.BarRule.{morningOf}
+use Rattle.bar_rules.proofs.is_morning.Statement.{statement}
+use Rattle.bar_rules.proofs.is_morning.Tie as tie
+
+returns : tie.Need-returns
+unfolding morningOf
+returns c =
+    simp (
+      c .before .max .ensures,
+      c .before .before .before .has-star-bodies .ensures,
+    )
+
+pub is-morning-spec : {M : Type 1} → statement M
+is-morning-spec = tie.close (tie.spec
+    (λ c κs. tt)
+    (λ c κs. tt)
+    returns)

@@ -1,0 +1,32 @@
+-- The code is the definition.
+use Rattle.bar_rules.specs.BarRule.{yunXian}
+use Rattle.bar_rules.proofs.yun_xian.Statement.{statement}
+use Rattle.bar_rules.proofs.yun_xian.Tie as tie
+
+returns : tie.Need-returns
+unfolding yunXian
+returns c =
+    simp (
+      c .pick2 .ensures,
+      c .before .holds-rising .ensures,
+      c .before .before .pick .ensures,
+      c .before .before .before .holds-falling .ensures,
+      c .before .before .before .before .shadow2 .ensures,
+      c .before .before .before .before .before .body2 .ensures,
+      c .before .before .before .before .before .before .shadow .ensures,
+      c .before .before .before .before .before .before .before .body .ensures,
+    )
+
+pub yun-xian-spec : {M : Type 1} → statement M
+yun-xian-spec =
+    tie.close
+    (tie.spec
+    (λ c κs. tt)
+    (λ c κs. tt)
+    (λ c κs. tt)
+    (λ c κs. tt)
+    (λ c κs. tt)
+    (λ c κs. tt)
+    (λ c κs. tt)
+    (λ c κs. tt)
+    returns)

@@ -1,0 +1,194 @@
+-- "The eighteen": the rules of a few newest bars: 2, 3, 5, 6, 9 to 14 and 16. b1 is the judged bar, b2 the one before.
+use Prim.Native.Nat.{ℕ, _+_}
+use mathlib.Core.Bool.{Bool, cond, _&&_, _||_}
+use mathlib.Core.List.{List, [], _∷_}
+use lib.Dec.{ltb, leb}
+use lib.Ieee.{Float, binary64, add, eq, mul, div, sub, lt, le}
+use Rattle.measures.specs.declared.bars.Bar.{Bar}
+use Rattle.measures.specs.Price.{zero, maxOf, minOf, absOf}
+use Rattle.measures.specs.Bar.{bodyOf, upperOf, lowerOf, dojiOf}
+use Rattle.measures.specs.Window.{windowOf}
+use Rattle.measures.specs.Fold.{extremesOf, quarterGap, varianceOf}
+use Rattle.rule_types.specs.declared.label.Label.{Label}
+use Rattle.rule_types.specs.declared.label.Label.the-variants.{Other, Any, Met, RisingThreeMethods, FallingThreeMethods, MorningStar, EveningStar, MiddleDoji, Bearish, Bullish, Bottom, Top, StandardBody, Regular, Strong, HalfStrong, DragonflyDoji, GravestoneDoji, LongLeggedDoji, CommonDoji, Northern, GapUp, GapDown}
+use Rattle.rule_types.specs.declared.label.Pair.{Pair}
+use Rattle.rule_types.specs.Label.{pairOf, pairA}
+use Rattle.rule_types.specs.Number.{gateAbove, aFifth, aHalf, one, two, three, aHundred, tenThousand, wholeOf}
+
+-- ---- 2: wu_yun_gai_ding, with the highest of the ten closes that end before b2
+
+-- the ten bars that end before b2, of whose closes 2 reads the highest
+abbrev pub tenCloses : List Bar → List Bar
+tenCloses w = windowOf w 3 10
+
+-- (c2 − o2) ÷ o2 × 10000 > z, o1 > h2, and c1 < (c2 + o2) × (th ÷ 100)
+unfoldable pub coversOf : ℕ → ℕ → Bar → Bar → Bool
+coversOf z th b1 b2 =
+    lt (wholeOf z) (mul binary64 (div binary64 (sub binary64 (b2 .close) (b2 .«open»)) (b2 .«open»)) tenThousand)
+    && lt (b2 .high) (b1 .«open»)
+    && lt (b1 .close) (mul binary64 (add binary64 (b2 .close) (b2 .«open»)) (div binary64 (wholeOf th) aHundred))
+
+unfoldable pub wuYunGaiDing : ℕ → ℕ → Float → Bar → Bar → Pair
+wuYunGaiDing z th top b1 b2 = pairOf (cond (coversOf z th b1 b2 && le top (b2 .close)) Met Other) Any
+
+-- ---- 3: ci_tou
+
+-- o1 < l2 and c1 > c2 + (o2 − c2) × (th ÷ 100)
+unfoldable pub comesBack : ℕ → Bar → Bar → Bool
+comesBack th b1 b2 =
+    lt (b1 .«open») (b2 .low)
+    && lt (add binary64 (b2 .close) (mul binary64 (sub binary64 (b2 .«open») (b2 .close)) (div binary64 (wholeOf th) aHundred))) (b1 .close)
+
+-- c2 < o2 and 1 − c2 ÷ o2 > z ÷ 10000
+unfoldable pub ciTou : ℕ → ℕ → Bar → Bar → Pair
+ciTou z th b1 b2 =
+    pairOf (cond (
+    (lt (b2 .close) (b2 .«open») && lt (div binary64 (wholeOf z) tenThousand) (sub binary64 one (div binary64 (b2 .close) (b2 .«open»))))
+    && comesBack th b1 b2) Met Other) Any
+
+-- ---- 5: san_fa_v20221115
+
+-- the change of close from one bar to the next, in ten thousandths
+unfoldable pub changeOf : Bar → Bar → Float
+changeOf older newer = mul binary64 (absOf (div binary64 (sub binary64 (older .close) (newer .close)) (older .close))) tenThousand
+
+-- the highest of three highs and the lowest of three lows are no folds: of three NaN they are NaN
+unfoldable pub sanFaV20221115 : ℕ → Bar → Bar → Bar → Bar → Bar → Bar → Pair
+sanFaV20221115 zdf b1 b2 b3 b4 b5 b6 =
+    let top = maxOf (maxOf (b2 .high) (b3 .high)) (b4 .high) in
+    let bottom = minOf (minOf (b2 .low) (b3 .low)) (b4 .low) in
+    pairOf (cond (le (wholeOf zdf) (changeOf b2 b1) && lt (wholeOf zdf) (changeOf b6 b5) && lt top (b5 .high)) Met Other)
+    (cond (lt (b5 .«open») (b5 .close) && lt (b1 .«open») (b1 .close) && lt (b5 .high) (b1 .close) && lt top (b1 .close) && lt (b2 .close) (b1 .«open»)) RisingThreeMethods
+    (cond (lt (b5 .close) (b5 .«open») && lt (b1 .close) (b1 .«open») && lt (b1 .close) (b5 .low) && lt (b1 .close) bottom && lt (b1 .«open») (b2 .close)) FallingThreeMethods Other))
+
+-- ---- 6: xing_xian
+
+-- body2 × th < body3 and body3 < body2 + body1
+unfoldable pub starBodies : ℕ → Bar → Bar → Bar → Bool
+starBodies th b1 b2 b3 = lt (mul binary64 (bodyOf b2) (wholeOf th)) (bodyOf b3) && lt (bodyOf b3) (add binary64 (bodyOf b2) (bodyOf b1))
+
+unfoldable pub morningOf : ℕ → Bar → Bar → Bar → Bool
+morningOf th b1 b2 b3 =
+    lt (b2 .high) (b3 .high) && lt (b2 .high) (b1 .high) && lt (b2 .low) (b3 .low) && lt (b2 .low) (b1 .low)
+    && lt (b3 .close) (b3 .«open») && starBodies th b1 b2 b3
+    && lt (b1 .«open») (b1 .close) && lt (maxOf (b2 .close) (b2 .«open»)) (b1 .«open»)
+
+unfoldable pub eveningOf : ℕ → Bar → Bar → Bar → Bool
+eveningOf th b1 b2 b3 =
+    lt (b3 .high) (b2 .high) && lt (b1 .high) (b2 .high) && lt (b3 .low) (b2 .low) && lt (b1 .low) (b2 .low)
+    && lt (b3 .«open») (b3 .close) && starBodies th b1 b2 b3
+    && lt (b1 .close) (b1 .«open») && lt (b1 .«open») (minOf (b2 .close) (b2 .«open»))
+
+unfoldable pub xingXian : ℕ → Bar → Bar → Bar → Pair
+xingXian th b1 b2 b3 =
+    pairOf (cond (morningOf th b1 b2 b3) MorningStar (cond (eveningOf th b1 b2 b3) EveningStar Other))
+    (cond (eq (b2 .close) (b2 .«open»)) MiddleDoji Any)
+
+-- ---- 9: yun_xian
+
+-- the longer shadow
+unfoldable pub longShadow : Bar → Float
+longShadow b = maxOf (upperOf b) (lowerOf b)
+
+abbrev pub holdsFalling : Bar → Bar → Bool
+holdsFalling b1 b2 = lt (b1 .close) (b2 .close) && lt (b2 .«open») (b1 .close) && lt (b1 .«open») (b2 .close) && lt (b2 .«open») (b1 .«open»)
+
+abbrev pub holdsRising : Bar → Bar → Bool
+holdsRising b1 b2 = lt (b2 .close) (b1 .close) && lt (b1 .close) (b2 .«open») && lt (b2 .close) (b1 .«open») && lt (b1 .«open») (b2 .«open»)
+
+-- the source tries 看空 first and lets 看多 take its place
+unfoldable pub yunXian : Bar → Bar → Pair
+yunXian b1 b2 =
+    let held = lt (longShadow b2) (bodyOf b2) && lt (bodyOf b1) (longShadow b1) in
+    pairOf (cond (held && holdsRising b1 b2) Bullish (cond (held && holdsFalling b1 b2) Bearish Other)) Any
+
+-- ---- 10: ping_tou
+
+-- |x − y| × 10000 ÷ max(x, y) < th
+unfoldable pub flatOf : ℕ → Float → Float → Bool
+flatOf th x y = lt (div binary64 (mul binary64 (absOf (sub binary64 x y)) tenThousand) (maxOf x y)) (wholeOf th)
+
+unfoldable pub pingTou : ℕ → Bar → Bar → Pair
+pingTou th b1 b2 =
+    pairOf (cond (flatOf th (b2 .low) (b1 .low)) Bottom (cond (flatOf th (b2 .high) (b1 .high)) Top Other))
+    (cond (lt (maxOf (bodyOf b1) (upperOf b1)) (bodyOf b2)) StandardBody Any)
+
+-- ---- 11: two_crow
+
+unfoldable pub twoCrow : Bar → Bar → Bar → Pair
+twoCrow b1 b2 b3 =
+    pairOf (cond (
+    (lt (b3 .«open») (b3 .close) && lt (longShadow b3) (bodyOf b3))
+    && (lt (b2 .close) (b2 .«open») && lt (b3 .high) (b2 .close))
+    && (lt (b1 .close) (b1 .«open») && lt (b1 .close) (b2 .close))) Bearish Other) Any
+
+-- ---- 12: three_crow
+
+-- the gate reads len, not p: len is above 23, and b3.high < Lmax − 0.25 × gap of the 20 bars that end third from the newest
+unfoldable pub gateShut : ℕ → List Bar → Bar → Bool
+gateShut len gate b3 = let e = extremesOf gate in ltb gateAbove len && lt (b3 .high) (sub binary64 (e .highest) (quarterGap e))
+
+abbrev pub fallingOf : Bar → Bar → Bar → Bool
+fallingOf b1 b2 b3 =
+    lt (b1 .close) (b1 .«open») && lt (b2 .close) (b2 .«open») && lt (b3 .close) (b3 .«open»)
+    && lt (b2 .close) (b3 .close) && lt (b1 .close) (b2 .close) && lt (b2 .high) (b3 .high) && lt (b1 .high) (b2 .high)
+
+-- short shadows of a falling bar: close − low < 0.5 × (open − close) and high − open < open − close
+abbrev pub shortShadows : Bar → Bool
+shortShadows b =
+    lt (sub binary64 (b .close) (b .low)) (mul binary64 aHalf (sub binary64 (b .«open») (b .close)))
+    && lt (sub binary64 (b .high) (b .«open»)) (sub binary64 (b .«open») (b .close))
+
+-- the open of the newer bar lies within the body of the older
+abbrev pub opensWithin : Bar → Bar → Bool
+opensWithin newer older = le (older .close) (newer .«open») && le (newer .«open») (older .«open»)
+
+-- the pair of three falling bars with short shadows; in the source's test for 半加强 the open of b3 is compared with its own close
+unfoldable pub crowPair : Bar → Bar → Bar → Pair
+crowPair b1 b2 b3 =
+    cond (opensWithin b1 b2 && opensWithin b2 b3) (pairOf Met Regular)
+    (cond (lt (b1 .«open») (b2 .close) && lt (b2 .«open») (b3 .close)) (pairOf Met Strong)
+    (cond (opensWithin b1 b2 && lt (b3 .«open») (b3 .close) || opensWithin b2 b3 && lt (b1 .«open») (b2 .close)) (pairOf Met HalfStrong) pairA))
+
+unfoldable pub threeCrow : Bar → Bar → Bar → Pair
+threeCrow b1 b2 b3 = cond (fallingOf b1 b2 b3 && (shortShadows b1 && shortShadows b2 && shortShadows b3)) (crowPair b1 b2 b3) pairA
+
+-- ---- 13: szx
+
+unfoldable pub dojiKind : Bar → Bar → Label
+dojiKind b1 b2 =
+    cond (lt (mul binary64 (upperOf b1) two) (lowerOf b1)) DragonflyDoji
+    (cond (eq (lowerOf b1) zero || lt (lowerOf b1) (bodyOf b1)) GravestoneDoji
+    (cond (lt (bodyOf b2) (lowerOf b1) && lt (bodyOf b2) (upperOf b1)) LongLeggedDoji CommonDoji))
+
+unfoldable pub northernOf : Bar → Bool
+northernOf b = lt (b .«open») (b .close) && lt (mul binary64 (add binary64 (upperOf b) (lowerOf b)) three) (bodyOf b)
+
+unfoldable pub szx : ℕ → Bar → Bar → Pair
+szx th b1 b2 = pairOf (cond (dojiOf (wholeOf th) b1) (dojiKind b1 b2) Other) (cond (northernOf b2) Northern Any)
+
+-- ---- 14: san_szx
+
+-- how many of the bars are doji
+unfoldable pub dojiCount : Float → List Bar → ℕ
+dojiCount th [] = 0
+dojiCount th (b ∷ bars) = cond (dojiOf th b) 1 0 + dojiCount th bars
+
+-- at least three of the newest five
+unfoldable pub sanSzx : ℕ → Bar → Bar → Bar → Bar → Bar → Pair
+sanSzx th b1 b2 b3 b4 b5 = pairOf (cond (leb 3 (dojiCount (wholeOf th) (b5 ∷ b4 ∷ b3 ∷ b2 ∷ b1 ∷ []))) Met Other) Any
+
+-- ---- 16: gap_yin_yang
+
+-- the variance of the two newest bodies is below 0.2
+abbrev pub alikeOf : Bar → Bar → Bool
+alikeOf b1 b2 = lt (varianceOf (bodyOf b1 ∷ bodyOf b2 ∷ [])) aFifth
+
+unfoldable pub gapUpOf : Bar → Bar → Bar → Bool
+gapUpOf b1 b2 b3 = (lt (b3 .high) (minOf (b1 .low) (b2 .low)) && lt (b2 .«open») (b2 .close) && lt (b1 .close) (b1 .«open»)) && alikeOf b1 b2
+
+unfoldable pub gapDownOf : Bar → Bar → Bar → Bool
+gapDownOf b1 b2 b3 = (lt (maxOf (b1 .high) (b2 .high)) (b3 .low) && lt (b2 .close) (b2 .«open») && lt (b1 .«open») (b1 .close)) && alikeOf b1 b2
+
+unfoldable pub gapYinYang : Bar → Bar → Bar → Pair
+gapYinYang b1 b2 b3 = pairOf (cond (gapUpOf b1 b2 b3) GapUp (cond (gapDownOf b1 b2 b3) GapDown Other)) Any

@@ -1,0 +1,13 @@
+-- Each arm of the match is a case of mayBegin. Assumes nothing.
+use borrow.Author.Needs.{needs}
+use Rattle.growing_rules.proofs.may_begin.Statement.{statement}
+use Rattle.growing_rules.proofs.may_begin.Tie as tie
+
+returns : tie.Need-returns
+returns c = simp (c .before .enum-told .given .1, c .may-be-methods .ensures)
+
+returns-2 : tie.Need-returns-2
+returns-2 c = simp (c .before .enum-told2 .given .1, c .may-be-tower .ensures)
+
+pub may-begin-spec : {M : Type 1} → statement M
+may-begin-spec = tie.close (tie.spec (λ c. search needs) (λ c κs. tt) (λ c. search needs) (λ c κs. tt) returns returns-2)

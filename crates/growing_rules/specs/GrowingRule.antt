@@ -1,0 +1,170 @@
+-- "The eighteen": the rules that try growing windows, 4 and 17. A window is a list of bars, oldest first.
+use Prim.Native.Nat.{ℕ, zero, suc, _+_, _-_}
+use mathlib.Core.Bool.{Bool, true, cond, not, _&&_, _||_}
+use mathlib.Core.List.{List, [], _∷_}
+use lib.Dec.{eqb}
+use lib.ListN.{length, getD}
+use lib.Ieee.{Float, nan, lt, le, isNan}
+use Rattle.measures.specs.declared.bars.Bar.{Bar}
+use Rattle.measures.specs.declared.folds.Column.the-variants.{Close, High, Low}
+use Rattle.measures.specs.Price.{maxOf, minOf}
+use Rattle.measures.specs.Bar.{bodyOf}
+use Rattle.measures.specs.Window.{windowOf, backOf}
+use Rattle.measures.specs.Fold.{columnOf, highestOf, lowestOf, varianceOf, everyOf}
+use Rattle.rule_types.specs.declared.label.Label.{Label}
+use Rattle.rule_types.specs.declared.label.Label.the-variants.{Other, RisingThreeMethods, FallingThreeMethods, Bars5, Bars6, Bars7, Bars8, Bars9, Bottom, Top}
+use Rattle.rule_types.specs.declared.label.Pair.{Pair}
+use Rattle.growing_rules.specs.declared.Growing.{Growing}
+use Rattle.growing_rules.specs.declared.Leaders.{Leaders}
+use Rattle.growing_rules.specs.declared.Shape.{Shape}
+use Rattle.growing_rules.specs.declared.Shape.the-variants.{ThreeMethods, Tower}
+use Rattle.rule_types.specs.Label.{codeOf, pairOf, pairA}
+use Rattle.rule_types.specs.Number.{aHalf}
+
+-- ---- windows that grow
+
+-- the label of a window of n bars
+unfoldable pub sizes : List Label
+sizes = Bars5 ∷ Bars6 ∷ Bars7 ∷ Bars8 ∷ Bars9 ∷ []
+
+unfoldable pub sizeLabel : ℕ → Label
+sizeLabel n = getD sizes (n - 5) Other
+
+-- windows of n, n + 1, .. bars are tried, k of them; the first match gives the label
+unfoldable pub firstMatch : (List Bar → Label) → ℕ → ℕ → List Bar → Pair
+firstMatch check zero n w = pairA
+firstMatch check (suc k) n w =
+    let t = check (windowOf w 1 n) in
+    cond (eqb (codeOf t) 0) (firstMatch check k (n + 1) w) (pairOf t (sizeLabel n))
+
+-- the first and the last bar of a window, and those between them
+unfoldable pub firstOf : List Bar → Bar
+firstOf s = backOf s (length s)
+
+unfoldable pub lastOf : List Bar → Bar
+lastOf s = backOf s 1
+
+unfoldable pub innerOf : List Bar → List Bar
+innerOf s = windowOf s 2 (length s - 2)
+
+-- ---- 4: san_fa_v20221118
+
+-- both ends rise and the last closes above the first's high; the highest high of the bars between lies between these two, their lowest
+-- low above the first's open, their highest close below its close
+unfoldable pub risesOf : List Bar → Bool
+risesOf s =
+    let first = firstOf s in
+    let last = lastOf s in
+    let hhv = highestOf (columnOf High (innerOf s)) in
+    (lt (last .«open») (last .close) && lt (first .«open») (first .close) && lt (first .high) (last .close))
+    && (lt hhv (last .close) && lt (first .high) hhv && lt (first .«open») (lowestOf (columnOf Low (innerOf s))) && lt (highestOf (columnOf Close (innerOf s))) (first .close))
+
+unfoldable pub fallsOf : List Bar → Bool
+fallsOf s =
+    let first = firstOf s in
+    let last = lastOf s in
+    let llv = lowestOf (columnOf Low (innerOf s)) in
+    (lt (last .close) (last .«open») && lt (first .close) (first .«open») && lt (last .close) (first .low))
+    && (lt llv (first .low) && lt (last .close) llv && lt (highestOf (columnOf High (innerOf s))) (first .«open») && lt (first .close) (lowestOf (columnOf Close (innerOf s))))
+
+unfoldable pub threeMethods : List Bar → Label
+threeMethods s = cond (risesOf s) RisingThreeMethods (cond (fallsOf s) FallingThreeMethods Other)
+
+-- windows of 5 to 8 bars
+unfoldable pub sanFaV20221118 : List Bar → Pair
+sanFaV20221118 w = firstMatch threeMethods 4 5 w
+
+-- ---- 17: ta_xing
+
+-- the bodies in non-rising order
+unfoldable pub insertOf : Float → List Float → List Float
+insertOf x [] = x ∷ []
+insertOf x (a ∷ rest) = cond (lt x a) (a ∷ insertOf x rest) (x ∷ a ∷ rest)
+
+unfoldable pub bodiesDown : List Bar → List Float
+bodiesDown [] = []
+bodiesDown (b ∷ s) = insertOf (bodyOf b) (bodiesDown s)
+
+-- no body is NaN
+unfoldable pub bodiesKnown : List Bar → Bool
+bodiesKnown [] = true
+bodiesKnown (b ∷ s) = not (isNan (bodyOf b)) && bodiesKnown s
+
+-- min(body of first, body of last) ≥ the last but one of the bodies in non-falling order, which is the second in non-rising order; a
+-- window with a NaN body never matches
+unfoldable pub endsLead : List Bar → Bool
+endsLead s = bodiesKnown s && le (getD (bodiesDown s) 1 nan) (minOf (bodyOf (firstOf s)) (bodyOf (lastOf s)))
+
+-- the first rises and the last falls; the highs between vary little; every low between is above the first's open and the last's close
+unfoldable pub topOf : List Bar → Bool
+topOf s =
+    let first = firstOf s in
+    let last = lastOf s in
+    endsLead s && ((lt (first .«open») (first .close) && lt (last .close) (last .«open»))
+    && lt (varianceOf (columnOf High (innerOf s))) aHalf
+    && everyOf (λ x. lt (maxOf (first .«open») (last .close)) x) (columnOf Low (innerOf s)))
+
+unfoldable pub bottomOf : List Bar → Bool
+bottomOf s =
+    let first = firstOf s in
+    let last = lastOf s in
+    endsLead s && ((lt (first .close) (first .«open») && lt (last .«open») (last .close))
+    && lt (varianceOf (columnOf Low (innerOf s))) aHalf
+    && everyOf (λ x. lt x (minOf (first .«open») (last .close))) (columnOf High (innerOf s)))
+
+unfoldable pub tower : List Bar → Label
+tower s = cond (topOf s) Top (cond (bottomOf s) Bottom Other)
+
+-- windows of 5 to 9 bars
+unfoldable pub taXing : List Bar → Pair
+taXing w = firstMatch tower 5 5 w
+
+-- ---- both at once, as a row of all recognisers has them
+abbrev pub growingOf : List Bar → Growing
+growingOf w = record { methods = sanFaV20221118 w; tower = taXing w }
+
+-- ---- what the code's search tries
+abbrev pub checkOf : Shape → List Bar → Label
+checkOf ThreeMethods = threeMethods
+checkOf Tower = tower
+
+-- ---- what the code's scan of the bodies carries: the two greatest, NaN where there is none, and whether no body is NaN
+
+unfoldable pub leadersOf : List Bar → Leaders
+leadersOf s = record { first = getD (bodiesDown s) 0 nan; second = getD (bodiesDown s) 1 nan; known = bodiesKnown s }
+
+-- an older bar's body x comes in front
+unfoldable pub joined : Float → Leaders → Leaders
+joined x l = record {
+  first = cond (lt x (l .first)) (l .first) x;
+  second = cond (lt x (l .first)) (cond (lt x (l .second)) (l .second) x) (l .first);
+  known = not (isNan x) && l .known;
+}
+
+-- ---- what the code tests before it searches: that the newest bar rises and no high of the three before it is above its close, or that
+-- it falls and no low is below its close; a NaN is neither
+unfoldable pub standsOut : Bar → Bar → Bar → Bar → Bool
+standsOut b1 b2 b3 b4 =
+    let c = b1 .close in
+    lt (b1 .«open») c && not (lt c (b2 .high)) && not (lt c (b3 .high)) && not (lt c (b4 .high))
+    || lt c (b1 .«open») && not (lt (b2 .low) c) && not (lt (b3 .low) c) && not (lt (b4 .low) c)
+
+-- and, before it looks at a window, of the window's first bar and the newest four: the ends, and that no close of the three before the newest
+-- lies beyond the first's close (4), or no low, no high of them beyond its open (17)
+unfoldable pub mayBeMethods : Bar → Bar → Bar → Bar → Bar → Bool
+mayBeMethods first b1 b2 b3 b4 =
+    let c = first .close in
+    (lt (b1 .«open») (b1 .close) && lt (first .«open») c && lt (first .high) (b1 .close))
+    && (not (lt c (b2 .close)) && not (lt c (b3 .close)) && not (lt c (b4 .close)))
+    || (lt (b1 .close) (b1 .«open») && lt c (first .«open») && lt (b1 .close) (first .low))
+    && (not (lt (b2 .close) c) && not (lt (b3 .close) c) && not (lt (b4 .close) c))
+
+unfoldable pub mayBeTower : Bar → Bar → Bar → Bar → Bar → Bool
+mayBeTower first b1 b2 b3 b4 =
+    let o = first .«open» in
+    (lt o (first .close) && lt (b1 .close) (b1 .«open»)) && (not (lt (b2 .low) o) && not (lt (b3 .low) o) && not (lt (b4 .low) o))
+    || (lt (first .close) o && lt (b1 .«open») (b1 .close)) && (not (lt o (b2 .high)) && not (lt o (b3 .high)) && not (lt o (b4 .high)))
+
+abbrev pub mayBegin : Shape → Bar → Bar → Bar → Bar → Bar → Bool
+mayBegin ThreeMethods = mayBeMethods
+mayBegin Tower = mayBeTower
