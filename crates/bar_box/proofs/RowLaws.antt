@@ -8,10 +8,9 @@ use lib.ListN.{length, getD, take, drop, set, length-append, length-drop}
 use lib.Seq.{take-suc, take-add, length-take-le, getD-drop}
 use Rattle.measures.specs.declared.bars.Bar.{Bar}
 use Rattle.measures.specs.Bar.{noBar}
-use Rattle.recognisers.specs.declared.label.Pair.{Pair}
 use Rattle.recognisers.specs.declared.thresholds.Thresholds.{Thresholds}
 use Rattle.recognisers.specs.Number.{rowBytes}
-use Rattle.recognisers.specs.Label.{codeOf}
+use Rattle.recognisers.specs.Label.{Pair, codeOf}
 use Rattle.recognisers.specs.Table.{codesOf}
 use Rattle.bar_box.specs.Sheet.{rowOf, rowsOf, overlay}
 use Rattle.bar_box.proofs.Overlay.{overlay-next, overlay-more}

@@ -1,19 +1,18 @@
--- "The eighteen": the rules of a few newest bars: 2, 3, 5, 6, 9 to 14 and 16. b1 is the judged bar, b2 the one before.
-use Prim.Native.Nat.{ℕ, _+_}
+-- "The eighteen": the rules of a few newest bars: 2, 3, 5, 9 to 12 and 16. b1 is the judged bar, b2 the one before.
+use Prim.Native.Nat.{ℕ}
 use mathlib.Core.Bool.{Bool, cond, _&&_, _||_}
 use mathlib.Core.List.{List, [], _∷_}
-use lib.Dec.{ltb, leb}
-use lib.Ieee.{Float, binary64, add, eq, mul, div, sub, lt, le}
+use lib.Dec.{ltb}
+use lib.Ieee.{Float, binary64, add, mul, div, sub, lt, le}
 use Rattle.measures.specs.declared.bars.Bar.{Bar}
-use Rattle.measures.specs.Price.{zero, maxOf, minOf, absOf}
-use Rattle.measures.specs.Bar.{bodyOf, upperOf, lowerOf, dojiOf}
+use Rattle.measures.specs.Price.{maxOf, minOf, absOf}
+use Rattle.measures.specs.Bar.{bodyOf, upperOf, lowerOf}
 use Rattle.measures.specs.Window.{windowOf}
 use Rattle.measures.specs.Fold.{extremesOf, quarterGap, varianceOf}
-use Rattle.rule_types.specs.declared.label.Label.{Label}
-use Rattle.rule_types.specs.declared.label.Label.the-variants.{Other, Any, Met, RisingThreeMethods, FallingThreeMethods, MorningStar, EveningStar, MiddleDoji, Bearish, Bullish, Bottom, Top, StandardBody, Regular, Strong, HalfStrong, DragonflyDoji, GravestoneDoji, LongLeggedDoji, CommonDoji, Northern, GapUp, GapDown}
+use Rattle.rule_types.specs.declared.label.Label.the-variants.{Other, Any, Met, RisingThreeMethods, FallingThreeMethods, Bearish, Bullish, Bottom, Top, StandardBody, Regular, Strong, HalfStrong, GapUp, GapDown}
 use Rattle.rule_types.specs.declared.label.Pair.{Pair}
 use Rattle.rule_types.specs.Label.{pairOf, pairA}
-use Rattle.rule_types.specs.Number.{gateAbove, aFifth, aHalf, one, two, three, aHundred, tenThousand, wholeOf}
+use Rattle.rule_types.specs.Number.{gateAbove, aFifth, aHalf, one, aHundred, tenThousand, wholeOf}
 
 -- ---- 2: wu_yun_gai_ding, with the highest of the ten closes that end before b2
 
@@ -60,29 +59,6 @@ sanFaV20221115 zdf b1 b2 b3 b4 b5 b6 =
     pairOf (cond (le (wholeOf zdf) (changeOf b2 b1) && lt (wholeOf zdf) (changeOf b6 b5) && lt top (b5 .high)) Met Other)
     (cond (lt (b5 .«open») (b5 .close) && lt (b1 .«open») (b1 .close) && lt (b5 .high) (b1 .close) && lt top (b1 .close) && lt (b2 .close) (b1 .«open»)) RisingThreeMethods
     (cond (lt (b5 .close) (b5 .«open») && lt (b1 .close) (b1 .«open») && lt (b1 .close) (b5 .low) && lt (b1 .close) bottom && lt (b1 .«open») (b2 .close)) FallingThreeMethods Other))
-
--- ---- 6: xing_xian
-
--- body2 × th < body3 and body3 < body2 + body1
-unfoldable pub starBodies : ℕ → Bar → Bar → Bar → Bool
-starBodies th b1 b2 b3 = lt (mul binary64 (bodyOf b2) (wholeOf th)) (bodyOf b3) && lt (bodyOf b3) (add binary64 (bodyOf b2) (bodyOf b1))
-
-unfoldable pub morningOf : ℕ → Bar → Bar → Bar → Bool
-morningOf th b1 b2 b3 =
-    lt (b2 .high) (b3 .high) && lt (b2 .high) (b1 .high) && lt (b2 .low) (b3 .low) && lt (b2 .low) (b1 .low)
-    && lt (b3 .close) (b3 .«open») && starBodies th b1 b2 b3
-    && lt (b1 .«open») (b1 .close) && lt (maxOf (b2 .close) (b2 .«open»)) (b1 .«open»)
-
-unfoldable pub eveningOf : ℕ → Bar → Bar → Bar → Bool
-eveningOf th b1 b2 b3 =
-    lt (b3 .high) (b2 .high) && lt (b1 .high) (b2 .high) && lt (b3 .low) (b2 .low) && lt (b1 .low) (b2 .low)
-    && lt (b3 .«open») (b3 .close) && starBodies th b1 b2 b3
-    && lt (b1 .close) (b1 .«open») && lt (b1 .«open») (minOf (b2 .close) (b2 .«open»))
-
-unfoldable pub xingXian : ℕ → Bar → Bar → Bar → Pair
-xingXian th b1 b2 b3 =
-    pairOf (cond (morningOf th b1 b2 b3) MorningStar (cond (eveningOf th b1 b2 b3) EveningStar Other))
-    (cond (eq (b2 .close) (b2 .«open»)) MiddleDoji Any)
 
 -- ---- 9: yun_xian
 
@@ -152,31 +128,6 @@ crowPair b1 b2 b3 =
 
 unfoldable pub threeCrow : Bar → Bar → Bar → Pair
 threeCrow b1 b2 b3 = cond (fallingOf b1 b2 b3 && (shortShadows b1 && shortShadows b2 && shortShadows b3)) (crowPair b1 b2 b3) pairA
-
--- ---- 13: szx
-
-unfoldable pub dojiKind : Bar → Bar → Label
-dojiKind b1 b2 =
-    cond (lt (mul binary64 (upperOf b1) two) (lowerOf b1)) DragonflyDoji
-    (cond (eq (lowerOf b1) zero || lt (lowerOf b1) (bodyOf b1)) GravestoneDoji
-    (cond (lt (bodyOf b2) (lowerOf b1) && lt (bodyOf b2) (upperOf b1)) LongLeggedDoji CommonDoji))
-
-unfoldable pub northernOf : Bar → Bool
-northernOf b = lt (b .«open») (b .close) && lt (mul binary64 (add binary64 (upperOf b) (lowerOf b)) three) (bodyOf b)
-
-unfoldable pub szx : ℕ → Bar → Bar → Pair
-szx th b1 b2 = pairOf (cond (dojiOf (wholeOf th) b1) (dojiKind b1 b2) Other) (cond (northernOf b2) Northern Any)
-
--- ---- 14: san_szx
-
--- how many of the bars are doji
-unfoldable pub dojiCount : Float → List Bar → ℕ
-dojiCount th [] = 0
-dojiCount th (b ∷ bars) = cond (dojiOf th b) 1 0 + dojiCount th bars
-
--- at least three of the newest five
-unfoldable pub sanSzx : ℕ → Bar → Bar → Bar → Bar → Bar → Pair
-sanSzx th b1 b2 b3 b4 b5 = pairOf (cond (leb 3 (dojiCount (wholeOf th) (b5 ∷ b4 ∷ b3 ∷ b2 ∷ b1 ∷ []))) Met Other) Any
 
 -- ---- 16: gap_yin_yang
 

@@ -1,16 +1,23 @@
--- What 17 reads as "the bodies in non-rising order" is that: the bodies of the window, no more and no fewer, of which none is below its
+-- What 17 reads as "the bodies in non-falling order" is that: the bodies of the window, no more and no fewer, of which none is above its
 -- neighbour behind it. Assumes nothing.
 use mathlib.Core.Path.{_≡_, refl}
 use mathlib.Core.Bool.{Bool, true, false, cond}
-use mathlib.Core.List.{List, [], _∷_, map, Perm, Perm·refl, Perm·cons, Perm·swap, Perm·trans}
+use mathlib.Core.List.{List, [], _∷_, map, reverse, reverseAux, reverse-perm, Perm, Perm·refl, Perm·cons, Perm·swap, Perm·trans}
 use lib.Ieee.{Float, lt}
 use Rattle.measures.specs.declared.bars.Bar.{Bar}
 use Rattle.measures.specs.Bar.{bodyOf}
 use Rattle.measures.proofs.Order.{lt-asym}
-use Rattle.growing_rules.specs.GrowingRule.{insertOf, bodiesDown}
+use Rattle.growing_rules.specs.GrowingRule.{insertOf, bodiesDown, bodiesUp}
 
--- none is below its neighbour behind it
-abbrev pub NonRising : List Float → Type 0
+-- none is above its neighbour behind it
+abbrev pub NonFalling : List Float → Type 0
+NonFalling [] = Unit {0}
+NonFalling (a ∷ []) = Unit {0}
+NonFalling (a ∷ b ∷ rest) = (lt b a ≡ false) × NonFalling (b ∷ rest)
+
+-- ---- the insertion gives them in non-rising order: none is below its neighbour behind it
+
+abbrev NonRising : List Float → Type 0
 NonRising [] = Unit {0}
 NonRising (a ∷ []) = Unit {0}
 NonRising (a ∷ b ∷ rest) = (lt a b ≡ false) × NonRising (b ∷ rest)
@@ -39,16 +46,34 @@ insert-perm x (a ∷ l) = go (insert-perm x l) (lt x a)
     go r true = Perm·trans (Perm·cons a r) (Perm·swap x a l)
     go r false = Perm·refl (x ∷ a ∷ l)
 
+down-non-rising : (s : List Bar) → NonRising (bodiesDown s)
+unfolding bodiesDown
+down-non-rising [] = tt
+down-non-rising (b ∷ s) = insert-non-rising (bodyOf b) (bodiesDown s) (down-non-rising s)
+
+down-perm : (s : List Bar) → Perm (bodiesDown s) (map bodyOf s)
+unfolding bodiesDown
+down-perm [] = Perm·refl []
+down-perm (b ∷ s) = Perm·trans (insert-perm (bodyOf b) (bodiesDown s)) (Perm·cons (bodyOf b) (down-perm s))
+
+-- ---- from the last to the first they are in non-falling order
+
+turned : (l : List Float) (b : Float) (r : List Float) → NonRising (b ∷ l) → NonFalling (b ∷ r) → NonFalling (reverseAux l (b ∷ r))
+turned [] b r h g = g
+turned (a ∷ l) b r h g = turned l a (b ∷ r) (h .1) (h .0, g)
+
+reverse-non-falling : (l : List Float) → NonRising l → NonFalling (reverse l)
+reverse-non-falling [] h = tt
+reverse-non-falling (b ∷ l) h = turned l b [] h tt
+
 pub record BodiesInOrder (s : List Bar) : Type 0 where
-  pub non-rising : NonRising (bodiesDown s)
-  pub the-bodies : Perm (bodiesDown s) (map bodyOf s)
+  pub non-falling : NonFalling (bodiesUp s)
+  pub the-bodies : Perm (bodiesUp s) (map bodyOf s)
 
 pub bodies-in-order : (s : List Bar) → BodiesInOrder s
-unfolding bodiesDown
-bodies-in-order [] = record { non-rising = tt; the-bodies = Perm·refl [] }
-bodies-in-order (b ∷ s) =
-    let rest = bodies-in-order s in
+unfolding bodiesUp
+bodies-in-order s =
     record {
-      non-rising = insert-non-rising (bodyOf b) (bodiesDown s) (rest .non-rising);
-      the-bodies = Perm·trans (insert-perm (bodyOf b) (bodiesDown s)) (Perm·cons (bodyOf b) (rest .the-bodies));
+      non-falling = reverse-non-falling (bodiesDown s) (down-non-rising s);
+      the-bodies = Perm·trans (reverse-perm (bodiesDown s)) (down-perm s);
     }

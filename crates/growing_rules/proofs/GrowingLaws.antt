@@ -1,9 +1,9 @@
--- The search over growing windows, step by step and where nothing matches, and the two greatest bodies when an older bar comes in front.
+-- The search over growing windows, step by step, where nothing matches, and within the newest nine bars; and the two greatest bodies when an older bar comes in front.
 -- Assumes nothing.
 use Prim.Native.Nat.{ℕ, zero, suc, _+_, _-_, _<_, _≤_}
 use mathlib.Core.Path.{_≡_, refl}
 use mathlib.Core.Bool.{Bool, true, false, cond}
-use mathlib.Core.List.{List, [], _∷_}
+use mathlib.Core.List.{List, [], _∷_, reverse, reverseAux}
 use native.Mathlib.Omega.{arith}
 use borrow.Author.Tests.{eq-eqb, ne-eqb}
 use lib.Dec.{eqb}
@@ -11,13 +11,14 @@ use lib.ListN.{getD}
 use lib.Ieee.{Float, nan, lt}
 use Rattle.measures.specs.declared.bars.Bar.{Bar}
 use Rattle.measures.specs.Bar.{bodyOf}
-use Rattle.measures.specs.Window.{windowOf}
+use Rattle.measures.specs.Window.{newest, windowOf}
+use Rattle.measures.proofs.WindowLaws.{window-reach}
 use Rattle.measures.proofs.Order.{lt-nan}
 use Rattle.rule_types.specs.declared.label.Label.{Label}
 use Rattle.rule_types.specs.declared.label.Label.the-variants.{Other}
 use Rattle.rule_types.specs.declared.label.Pair.{Pair}
 use Rattle.rule_types.specs.Label.{codeOf, pairOf, pairA}
-use Rattle.growing_rules.specs.GrowingRule.{sizeLabel, firstMatch, insertOf, bodiesDown, bodiesKnown, leadersOf, joined}
+use Rattle.growing_rules.specs.GrowingRule.{sizeLabel, firstMatch, threeMethods, sanFaV20221118, tower, taXing, insertOf, bodiesDown, bodiesUp, lastButOne, bodiesKnown, leadersOf, joined}
 
 -- ---- the search, from n on up to the size before `to`
 
@@ -48,6 +49,20 @@ unfolding firstMatch
 match-none check w none zero n h = refl
 match-none check w none (suc k) n h = simp (none n h, match-none check w none k (n + 1) (omega arith))
 
+-- windows of at most nine bars are the same within the newest nine
+match-near : (check : List Bar → Label) (w : List Bar) (k n : ℕ) → 1 ≤ n → n + k ≤ 10 → firstMatch check k n (newest 9 w) ≡ firstMatch check k n w
+unfolding firstMatch
+match-near check w zero n some few = refl
+match-near check w (suc k) n some few = simp (window-reach 9 w 1 n (omega arith) (omega arith), match-near check w k (n + 1) (omega arith) (omega arith))
+
+pub san-fa-near : (w : List Bar) → sanFaV20221118 (newest 9 w) ≡ sanFaV20221118 w
+unfolding sanFaV20221118
+san-fa-near w = match-near threeMethods w 4 5 (omega arith) (omega arith)
+
+pub ta-xing-near : (w : List Bar) → taXing (newest 9 w) ≡ taXing w
+unfolding taXing
+ta-xing-near w = match-near tower w 5 5 (omega arith) (omega arith)
+
 -- ---- the two greatest bodies: the first two of a list that a value is inserted into depend on that value and the first two
 
 insert-first : (x : Float) (l : List Float) → getD (insertOf x l) 0 nan ≡ cond (lt x (getD l 0 nan)) (getD l 0 nan) x
@@ -71,3 +86,19 @@ insert-second x (a ∷ l) = go (lt x a)
 pub leaders-grow : (b : Bar) (s : List Bar) → leadersOf (b ∷ s) ≡ joined (bodyOf b) (leadersOf s)
 unfolding leadersOf joined bodiesDown bodiesKnown
 leaders-grow b s = simp (insert-first (bodyOf b) (bodiesDown s), insert-second (bodyOf b) (bodiesDown s))
+
+-- the last but one in non-falling order is the second in non-rising order, which the scan carries
+last-but-one-turned : (l : List Float) (x y : Float) (r : List Float) → lastButOne (reverseAux l (x ∷ y ∷ r)) ≡ lastButOne (x ∷ y ∷ r)
+unfolding lastButOne
+last-but-one-turned [] x y r = refl
+last-but-one-turned (a ∷ l) x y r = last-but-one-turned l a x (y ∷ r)
+
+last-but-one-reversed : (l : List Float) → lastButOne (reverse l) ≡ getD l 1 nan
+unfolding lastButOne
+last-but-one-reversed [] = refl
+last-but-one-reversed (a ∷ []) = refl
+last-but-one-reversed (a ∷ b ∷ l) = last-but-one-turned l b a []
+
+pub last-but-one : (s : List Bar) → lastButOne (bodiesUp s) ≡ leadersOf s .second
+unfolding bodiesUp leadersOf
+last-but-one s = last-but-one-reversed (bodiesDown s)

@@ -1,7 +1,7 @@
 -- "The eighteen": the rules that try growing windows, 4 and 17. A window is a list of bars, oldest first.
 use Prim.Native.Nat.{ℕ, zero, suc, _+_, _-_}
 use mathlib.Core.Bool.{Bool, true, cond, not, _&&_, _||_}
-use mathlib.Core.List.{List, [], _∷_}
+use mathlib.Core.List.{List, [], _∷_, reverse}
 use lib.Dec.{eqb}
 use lib.ListN.{length, getD}
 use lib.Ieee.{Float, nan, lt, le, isNan}
@@ -76,7 +76,7 @@ sanFaV20221118 w = firstMatch threeMethods 4 5 w
 
 -- ---- 17: ta_xing
 
--- the bodies in non-rising order
+-- the bodies in non-falling order: each put into its place in non-rising order, and these from the last to the first
 unfoldable pub insertOf : Float → List Float → List Float
 insertOf x [] = x ∷ []
 insertOf x (a ∷ rest) = cond (lt x a) (a ∷ insertOf x rest) (x ∷ a ∷ rest)
@@ -85,15 +85,24 @@ unfoldable pub bodiesDown : List Bar → List Float
 bodiesDown [] = []
 bodiesDown (b ∷ s) = insertOf (bodyOf b) (bodiesDown s)
 
+unfoldable pub bodiesUp : List Bar → List Float
+bodiesUp s = reverse (bodiesDown s)
+
+-- the last but one of a list, NaN where there is none
+unfoldable pub lastButOne : List Float → Float
+lastButOne [] = nan
+lastButOne (a ∷ []) = nan
+lastButOne (a ∷ b ∷ []) = a
+lastButOne (a ∷ b ∷ c ∷ rest) = lastButOne (b ∷ c ∷ rest)
+
 -- no body is NaN
 unfoldable pub bodiesKnown : List Bar → Bool
 bodiesKnown [] = true
 bodiesKnown (b ∷ s) = not (isNan (bodyOf b)) && bodiesKnown s
 
--- min(body of first, body of last) ≥ the last but one of the bodies in non-falling order, which is the second in non-rising order; a
--- window with a NaN body never matches
+-- min(body of first, body of last) ≥ the last but one of the bodies in non-falling order; a window with a NaN body never matches
 unfoldable pub endsLead : List Bar → Bool
-endsLead s = bodiesKnown s && le (getD (bodiesDown s) 1 nan) (minOf (bodyOf (firstOf s)) (bodyOf (lastOf s)))
+endsLead s = bodiesKnown s && le (lastButOne (bodiesUp s)) (minOf (bodyOf (firstOf s)) (bodyOf (lastOf s)))
 
 -- the first rises and the last falls; the highs between vary little; every low between is above the first's open and the last's close
 unfoldable pub topOf : List Bar → Bool

@@ -10,14 +10,14 @@ ghost use lib.ListN.{length};
 ghost use Rattle.measures.specs.Bar.{barsOf};
 ghost use Rattle.measures.specs.Window.{backOf, windowOf};
 ghost use Rattle.growing_rules.specs.GrowingRule.{sizeLabel, firstMatch, firstOf, lastOf, innerOf, risesOf, fallsOf, threeMethods, sanFaV20221118, leadersOf, joined, endsLead, topOf, bottomOf, tower as towerOf, checkOf, taXing, growingOf, standsOut, mayBeMethods, mayBeTower, mayBegin};
+use measures::Bar;
+use measures::Column;
+use measures::Test;
 use rule_types::label::Label;
 use rule_types::label::Pair;
 use rule_types::label::code;
 use rule_types::label::pair_a;
 use rule_types::label::pick;
-use measures::Bar;
-use measures::Column;
-use measures::Test;
 
 // What a window is tried for, where the source has a closure.
 pub enum Shape {

@@ -113,6 +113,18 @@ newest-drop : (k n : ℕ) (run : List Bar) → k + (length run - k - n) ≡ leng
 unfolding newest
 newest-drop k n run e = simp (length-drop, drop-drop, e)
 
+pub newest-again : (n m : ℕ) (bars : List Bar) → n ≤ m → newest n (newest m bars) ≡ newest n bars
+unfolding newest
+newest-again n m bars few = newest-drop (length bars - m) n bars (omega arith)
+
+-- and so is the i-th from the end, if i is among them
+pub back-newest : (m i : ℕ) (bars : List Bar) → i ≤ m → backOf (newest m bars) i ≡ backOf bars i
+unfolding newest backOf
+back-newest m i bars near =
+    let d = length bars - m in
+    let e : d + (length bars - d - min i (length bars - d)) ≡ length bars - min i (length bars) = omega arith in
+    simp (getD-drop, length-drop, e)
+
 -- sums of the window's places: len bars of which the newest m are kept, and an offset
 module _ (len m di n : ℕ) (h : di + n ≤ m + 1) (g : 1 ≤ n) (one : 1 ≤ di) (within : di ≤ len) where
   kept-up-to : len - (len - m) - di + 1 ≡ len - di + 1 - (len - m)

@@ -4,12 +4,12 @@
 ghost use mathlib.Core.Path.{_≡_};
 ghost use Rattle.measures.specs.Bar.{barsOf};
 ghost use Rattle.quarter_rules.specs.QuarterRule.{quarterIn, quarterOf, quarterExtremes, cutOf, umbrellaOf, sanXingXian, engulfsUp, engulfsDown, tenMo, partsDown, partsUp, fenShouXian, candleOf, zhuHuoXian, countersOf, countersUp, countersDown, fanJiXian};
+use measures::Bar;
+use measures::Extremes;
 use rule_types::counts::QUARTER_BARS;
 use rule_types::label::Label;
 use rule_types::label::Pair;
 use rule_types::label::pick;
-use measures::Bar;
-use measures::Extremes;
 
 // The side of the quarter that the judged bar reaches into; the low side is tried first.
 pub struct Quarter {

@@ -17,7 +17,8 @@ use Rattle.rule_types.specs.Number.{wholeOf, aHundred}
 use Rattle.rule_types.specs.Label.{pairOf}
 use Rattle.recognisers.specs.Threshold.{standardSet}
 use Rattle.quarter_rules.specs.QuarterRule.{quarterOf, cutOf, umbrellaOf, sanXingXian, tenMo, fenShouXian}
-use Rattle.bar_rules.specs.BarRule.{longShadow, yunXian, flatOf, pingTou, twoCrow, gateShut, crowPair, threeCrow, dojiKind, northernOf, szx}
+use Rattle.bar_rules.specs.BarRule.{longShadow, yunXian, flatOf, pingTou, twoCrow, gateShut, crowPair, threeCrow}
+use Rattle.star_rules.specs.StarRule.{dojiKind, northernOf, szx}
 use Rattle.growing_rules.specs.GrowingRule.{sizes, sizeLabel, firstMatch, firstOf, lastOf, innerOf, risesOf, fallsOf, threeMethods, sanFaV20221118, insertOf, bodiesDown, bodiesKnown, endsLead, topOf, bottomOf, tower, taXing}
 use Rattle.recognisers.specs.Table.{rows, rowOf, judgeOf, pairAt}
 

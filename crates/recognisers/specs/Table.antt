@@ -13,7 +13,8 @@ use Rattle.recognisers.specs.declared.thresholds.Thresholds.{Thresholds}
 use Rattle.rule_types.specs.Label.{codeOf, pairA, pairB}
 use Rattle.rule_types.specs.Number.{recognisers, gated, reachBars, quarterBars, gateEnd}
 use Rattle.quarter_rules.specs.QuarterRule.{quarterOf, quarterExtremes, sanXingXian, tenMo, fenShouXian, zhuHuoXian, fanJiXian}
-use Rattle.bar_rules.specs.BarRule.{tenCloses, wuYunGaiDing, ciTou, sanFaV20221115, xingXian, yunXian, pingTou, twoCrow, gateShut, threeCrow, szx, sanSzx, gapYinYang}
+use Rattle.bar_rules.specs.BarRule.{tenCloses, wuYunGaiDing, ciTou, sanFaV20221115, yunXian, pingTou, twoCrow, gateShut, threeCrow, gapYinYang}
+use Rattle.star_rules.specs.StarRule.{xingXian, szx, sanSzx}
 use Rattle.growing_rules.specs.GrowingRule.{sanFaV20221118, taXing}
 
 -- a recogniser: the p from which its rule holds, the short pair below that p, and the rule, over the thresholds, whether p is 22 or

@@ -1,10 +1,10 @@
 // The plain call, and why a call is refused.
 ghost use mathlib.Core.Path.{_≡_};
 ghost use Rattle.recognisers.specs.Refusal.{refusalNumber, plainVerdict, recogniseOf};
-use rule_types::counts;
-use rule_types::label::Pair;
 use crate::table;
 use crate::thresholds::Thresholds;
+use rule_types::counts;
+use rule_types::label::Pair;
 
 // Why a call is refused, in the order in which it is tried.
 pub enum Refusal {

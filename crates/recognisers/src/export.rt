@@ -14,12 +14,12 @@ ghost use Rattle.recognisers.specs.Export.{wordAt, priceAt, pricesAt, pr
 use crate::call;
 use crate::call::Answer;
 use crate::call::Verdict;
-use rule_types::counts;
-use rule_types::label::Pair;
-use rule_types::label::code;
 use crate::table;
 use crate::thresholds::Thresholds;
 use measures::price;
+use rule_types::counts;
+use rule_types::label::Pair;
+use rule_types::label::code;
 
 fn wide(b: u8) -> u64
     ensures { λ r. ⌜ (r ≡ b) × (r < 256) ⌝ }

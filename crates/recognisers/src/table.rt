@@ -6,6 +6,11 @@ ghost use Rattle.measures.specs.Bar.{barsOf};
 ghost use Prim.Native.Nat.{_<_};
 ghost use Rattle.rule_types.specs.Number.{recognisers, reachBars};
 ghost use Rattle.recognisers.specs.Table.{rowOf, ruleOf, judgeOf, pairAt, pairsAt, rulesOf, pairsOf};
+use crate::thresholds::Thresholds;
+use measures::back;
+use quarter_rules::quarter_extremes;
+use quarter_rules::quarter_in;
+use quarter_rules::quarter_of;
 use rule_types::counts::GATE_END;
 use rule_types::counts::QUARTER_BARS;
 use rule_types::counts::REACH_BARS;
@@ -13,11 +18,6 @@ use rule_types::label::Pair;
 use rule_types::label::pair_a;
 use rule_types::label::pair_b;
 use rule_types::label::pick_pair;
-use quarter_rules::quarter_extremes;
-use quarter_rules::quarter_in;
-use quarter_rules::quarter_of;
-use crate::thresholds::Thresholds;
-use measures::back;
 
 // The p from which each rule holds, in the order of the numbers.
 const FROM: [usize; 18] = [1, 2, 12, 16, 5, 6, 3, 2, 1, 2, 2, 3, 3, 11, 8, 21, 7, 5];
@@ -68,15 +68,15 @@ fn rule(k: u32, t: Thresholds, len: usize, deep: bool, w: &[f64], gate: &[f64]) 
         3 => bar_rules::ci_tou(t.z3, t.th3, b1, b2),
         4 => growing_rules::san_fa_v20221118(w),
         5 => { bar_rules::san_fa_v20221115(t.zdf5, b1, b2, b3, back(w, 4), back(w, 5), back(w, 6)) }
-        6 => bar_rules::xing_xian(t.th6, b1, b2, b3),
+        6 => star_rules::xing_xian(t.th6, b1, b2, b3),
         7 => quarter_rules::fen_shou_xian(t.zdf7, quarter_of(deep, w), b1, b2),
         8 => quarter_rules::zhu_huo_xian(t.th8, t.zf8, quarter_of(deep, w), b1),
         9 => bar_rules::yun_xian(b1, b2),
         10 => bar_rules::ping_tou(t.th10, b1, b2),
         11 => bar_rules::two_crow(b1, b2, b3),
         12 => bar_rules::three_crow(len, gate, b1, b2, b3),
-        13 => bar_rules::szx(t.th13, b1, b2),
-        14 => bar_rules::san_szx(t.th14, b1, b2, b3, back(w, 4), back(w, 5)),
+        13 => star_rules::szx(t.th13, b1, b2),
+        14 => star_rules::san_szx(t.th14, b1, b2, b3, back(w, 4), back(w, 5)),
         15 => quarter_rules::fan_ji_xian(quarter_extremes(w), b3, b2, b1),
         16 => bar_rules::gap_yin_yang(b1, b2, b3),
         17 => growing_rules::ta_xing(w),
@@ -126,15 +126,15 @@ fn rules(t: Thresholds, len: usize, deep: bool, w: &[f64], gate: &[f64]) -> [Pai
         bar_rules::ci_tou(t.z3, t.th3, b1, b2),
         methods,
         bar_rules::san_fa_v20221115(t.zdf5, b1, b2, b3, b4, b5, b6),
-        bar_rules::xing_xian(t.th6, b1, b2, b3),
+        star_rules::xing_xian(t.th6, b1, b2, b3),
         quarter_rules::fen_shou_xian(t.zdf7, q, b1, b2),
         quarter_rules::zhu_huo_xian(t.th8, t.zf8, q, b1),
         bar_rules::yun_xian(b1, b2),
         bar_rules::ping_tou(t.th10, b1, b2),
         bar_rules::two_crow(b1, b2, b3),
         bar_rules::three_crow(len, gate, b1, b2, b3),
-        bar_rules::szx(t.th13, b1, b2),
-        bar_rules::san_szx(t.th14, b1, b2, b3, b4, b5),
+        star_rules::szx(t.th13, b1, b2),
+        star_rules::san_szx(t.th14, b1, b2, b3, b4, b5),
         quarter_rules::fan_ji_xian(e, b3, b2, b1),
         bar_rules::gap_yin_yang(b1, b2, b3),
         tower,

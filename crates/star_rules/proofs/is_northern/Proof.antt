@@ -1,7 +1,7 @@
 -- The code is the definition.
-use Rattle.bar_rules.specs.BarRule.{northernOf}
-use Rattle.bar_rules.proofs.is_northern.Statement.{statement}
-use Rattle.bar_rules.proofs.is_northern.Tie as tie
+use Rattle.star_rules.specs.StarRule.{northernOf}
+use Rattle.star_rules.proofs.is_northern.Statement.{statement}
+use Rattle.star_rules.proofs.is_northern.Tie as tie
 
 returns : tie.Need-returns
 unfolding northernOf

@@ -1,8 +1,8 @@
 -- The branch is the definition's.
 use mathlib.Core.Path.{_∙_, sym}
 use native.Mathlib.Omega.{arith}
-use Rattle.bar_rules.proofs.doji_one.Statement.{statement}
-use Rattle.bar_rules.proofs.doji_one.Tie as tie
+use Rattle.star_rules.proofs.doji_one.Statement.{statement}
+use Rattle.star_rules.proofs.doji_one.Tie as tie
 
 returns : tie.Need-returns
 returns c = let met = sym (c .before .is-doji .ensures) ∙ c .if1 .taken in (simp met, omega arith)

@@ -1,7 +1,7 @@
 -- The code is the definition.
-use Rattle.bar_rules.specs.BarRule.{eveningOf}
-use Rattle.bar_rules.proofs.is_evening.Statement.{statement}
-use Rattle.bar_rules.proofs.is_evening.Tie as tie
+use Rattle.star_rules.specs.StarRule.{eveningOf}
+use Rattle.star_rules.proofs.is_evening.Statement.{statement}
+use Rattle.star_rules.proofs.is_evening.Tie as tie
 
 returns : tie.Need-returns
 unfolding eveningOf

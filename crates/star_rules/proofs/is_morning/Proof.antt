@@ -1,7 +1,7 @@
 -- The code is the definition.
-use Rattle.bar_rules.specs.BarRule.{morningOf}
-use Rattle.bar_rules.proofs.is_morning.Statement.{statement}
-use Rattle.bar_rules.proofs.is_morning.Tie as tie
+use Rattle.star_rules.specs.StarRule.{morningOf}
+use Rattle.star_rules.proofs.is_morning.Statement.{statement}
+use Rattle.star_rules.proofs.is_morning.Tie as tie
 
 returns : tie.Need-returns
 unfolding morningOf

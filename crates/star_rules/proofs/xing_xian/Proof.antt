@@ -1,7 +1,7 @@
 -- The code is the definition.
-use Rattle.bar_rules.specs.BarRule.{xingXian}
-use Rattle.bar_rules.proofs.xing_xian.Statement.{statement}
-use Rattle.bar_rules.proofs.xing_xian.Tie as tie
+use Rattle.star_rules.specs.StarRule.{xingXian}
+use Rattle.star_rules.proofs.xing_xian.Statement.{statement}
+use Rattle.star_rules.proofs.xing_xian.Tie as tie
 
 returns : tie.Need-returns
 unfolding xingXian

@@ -1,9 +1,9 @@
 -- The code is the definition.
-use Rattle.bar_rules.specs.BarRule.{sanSzx, dojiCount}
+use Rattle.star_rules.specs.StarRule.{sanSzx, dojiCount}
 use native.Mathlib.Nat.{add-zero}
 use borrow.Author.Needs.{needs}
-use Rattle.bar_rules.proofs.san_szx.Statement.{statement}
-use Rattle.bar_rules.proofs.san_szx.Tie as tie
+use Rattle.star_rules.proofs.san_szx.Statement.{statement}
+use Rattle.star_rules.proofs.san_szx.Tie as tie
 
 int-to-float-x : tie.Need-int-to-float-x
 int-to-float-x c = search needs

@@ -1,8 +1,8 @@
 -- The code is the definition.
-use Rattle.bar_rules.specs.BarRule.{szx}
+use Rattle.star_rules.specs.StarRule.{szx}
 use borrow.Author.Needs.{needs}
-use Rattle.bar_rules.proofs.szx.Statement.{statement}
-use Rattle.bar_rules.proofs.szx.Tie as tie
+use Rattle.star_rules.proofs.szx.Statement.{statement}
+use Rattle.star_rules.proofs.szx.Tie as tie
 
 int-to-float-is-doji : tie.Need-int-to-float-is-doji
 int-to-float-is-doji c = search needs

@@ -1,7 +1,7 @@
 -- The code is the definition.
-use Rattle.bar_rules.specs.BarRule.{dojiKind}
-use Rattle.bar_rules.proofs.doji_kind.Statement.{statement}
-use Rattle.bar_rules.proofs.doji_kind.Tie as tie
+use Rattle.star_rules.specs.StarRule.{dojiKind}
+use Rattle.star_rules.proofs.doji_kind.Statement.{statement}
+use Rattle.star_rules.proofs.doji_kind.Tie as tie
 
 returns : tie.Need-returns
 unfolding dojiKind

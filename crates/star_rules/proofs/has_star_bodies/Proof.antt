@@ -1,8 +1,8 @@
 -- The code is the definition.
-use Rattle.bar_rules.specs.BarRule.{starBodies}
+use Rattle.star_rules.specs.StarRule.{starBodies}
 use borrow.Author.Needs.{needs}
-use Rattle.bar_rules.proofs.has_star_bodies.Statement.{statement}
-use Rattle.bar_rules.proofs.has_star_bodies.Tie as tie
+use Rattle.star_rules.proofs.has_star_bodies.Statement.{statement}
+use Rattle.star_rules.proofs.has_star_bodies.Tie as tie
 
 int-to-float-result : tie.Need-int-to-float-result
 int-to-float-result c = search needs
