@@ -16,11 +16,11 @@ use Rattle.rule_types.specs.declared.label.Pair.{Pair}
 use Rattle.rule_types.specs.Number.{wholeOf, aHundred}
 use Rattle.rule_types.specs.Label.{pairOf}
 use Rattle.recognisers.specs.Threshold.{standardSet}
-use Rattle.quarter_rules.specs.QuarterRule.{quarterOf, cutOf, umbrellaOf, sanXingXian, tenMo, fenShouXian}
+use Rattle.quarter_rules.specs.QuarterRule.{cutOf, umbrellaOf, sanXingXian, tenMo, fenShouXian}
 use Rattle.bar_rules.specs.BarRule.{longShadow, yunXian, flatOf, pingTou, twoCrow, gateShut, crowPair, threeCrow}
 use Rattle.star_rules.specs.StarRule.{dojiKind, northernOf, szx}
-use Rattle.growing_rules.specs.GrowingRule.{sizes, sizeLabel, firstMatch, firstOf, lastOf, innerOf, risesOf, fallsOf, threeMethods, sanFaV20221118, insertOf, bodiesDown, bodiesKnown, endsLead, topOf, bottomOf, tower, taXing}
-use Rattle.recognisers.specs.Table.{rows, rowOf, judgeOf, pairAt}
+use Rattle.growing_rules.specs.GrowingRule.{sizes, sizeLabel, firstMatch, firstOf, lastOf, innerOf, risesOf, fallsOf, threeMethods, sanFaV20221118, insertOf, bodiesDown, bodiesUp, lastButOne, bodiesKnown, endsLead, topOf, bottomOf, tower, taXing}
+use Rattle.recognisers.specs.Table.{seenOf, rows, rowOf, judgeOf, pairAt}
 
 pub bar : ℕ → ℕ → ℕ → ℕ → Bar
 bar o c h l = barOf (wholeOf o) (wholeOf c) (wholeOf h) (wholeOf l)
@@ -47,7 +47,7 @@ pub known :
     × (newestPair 12 (bar 20 16 21 15 ∷ bar 17 13 18 12 ∷ bar 14 10 15 9 ∷ []) ≡ pairOf Met Regular)
     × (newestPair 13 (times 10 (bar 10 10 10 10)) ≡ pairOf Other Other)
     × (newestPair 13 (times 11 (bar 10 10 10 10)) ≡ pairOf Other Any)
-unfolding bar times newestPair ofInt ofBits ofFields toUnsigned round size span climb units odd trailingZeros lt eq le ne add sub mul div sum neg isNan maxOf minOf absOf squareOf bodyOf upperOf lowerOf dojiOf upTo newest windowOf backOf columnOf highestOf lowestOf sumOf sizeOf meanOf varianceOf everyOf extremesOf standardSet quarterOf cutOf umbrellaOf sanXingXian tenMo fenShouXian longShadow yunXian flatOf pingTou twoCrow gateShut crowPair threeCrow dojiKind northernOf szx sizes sizeLabel firstMatch firstOf lastOf innerOf risesOf fallsOf threeMethods sanFaV20221118 insertOf bodiesDown bodiesKnown endsLead topOf bottomOf tower taXing rows rowOf judgeOf pairAt
+unfolding bar times newestPair ofInt ofBits ofFields toUnsigned round size span climb units odd trailingZeros lt eq le ne add sub mul div sum neg isNan maxOf minOf absOf squareOf bodyOf upperOf lowerOf dojiOf upTo newest windowOf backOf columnOf highestOf lowestOf sumOf sizeOf meanOf varianceOf everyOf extremesOf standardSet cutOf umbrellaOf sanXingXian tenMo fenShouXian longShadow yunXian flatOf pingTou twoCrow gateShut crowPair threeCrow dojiKind northernOf szx sizes sizeLabel firstMatch firstOf lastOf innerOf risesOf fallsOf threeMethods sanFaV20221118 insertOf bodiesDown bodiesUp lastButOne bodiesKnown endsLead topOf bottomOf tower taXing seenOf rows rowOf judgeOf pairAt
 known = (refl, refl, refl, refl, refl, refl, refl, refl, refl, refl, refl, refl)
 
 -- "Misreadings": 0.29 × 100 is 28.999999999999996, so t is 28
