@@ -28,9 +28,11 @@ backOf bars i = getD bars (length bars - min i (length bars)) noBar
 abbrev pub pricesFrom : List Float → ℕ → ℕ → List Float
 pricesFrom prices from to = take (to * 4 - from * 4) (drop (from * 4) prices)
 
+-- the prices of a window's bars; prices at the end of a run that make no whole bar are passed over
+abbrev pub windowPrices : List Float → ℕ → ℕ → List Float
+windowPrices prices di n = let p = upTo (length prices / 4) di in pricesFrom prices (p - min n p) p
+
 -- what the window function hands back: the part of the lent prices with those bars, and an empty part if n or di is 0, di exceeds
 -- len, or the prices do not make whole bars
 unfoldable pub partOf : List Float → ℕ → ℕ → List Float
-partOf prices di n =
-    let p = upTo (length prices / 4) di in
-    cond (eqb (length prices % 4) 0) (pricesFrom prices (p - min n p) p) []
+partOf prices di n = cond (eqb (length prices % 4) 0) (windowPrices prices di n) []

@@ -9,7 +9,7 @@ unfolding wuYunGaiDing
 returns c =
     let test = c .before .before .before .before in
     let met = sym (test .before .covers .ensures) ∙ test .if1 .taken in
-    simp (c .pick .ensures, c .before .before .highest .ensures, c .before .before .before .last-bars .ensures, met)
+    simp (c .pick .ensures, c .before .before .highest .ensures, c .before .before .before .last-bars .ensures .1, met)
 
 returns-2 : tie.Need-returns-2
 unfolding wuYunGaiDing

@@ -7,7 +7,7 @@ returns : tie.Need-returns
 unfolding innerOf
 returns c =
     simp (
-      c .last-bars .ensures,
+      c .last-bars .ensures .1,
       c .before .minus .ensures,
       c .before .before .count .ensures,
     )

@@ -6,7 +6,7 @@ use Rattle.growing_rules.proofs.try_window.Statement.{statement}
 use Rattle.growing_rules.proofs.try_window.Tie as tie
 
 returns : tie.Need-returns
-returns c = simp (c .check .ensures, c .before .last-bars .ensures)
+returns c = simp (c .check .ensures, c .before .last-bars .ensures .1)
 
 returns-2 : tie.Need-returns-2
 returns-2 c =

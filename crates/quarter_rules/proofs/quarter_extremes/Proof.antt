@@ -6,7 +6,7 @@ returns : tie.Need-returns
 returns c =
     simp (
       c .extremes-of .ensures,
-      c .before .last-bars .ensures,
+      c .before .last-bars .ensures .1,
     )
 
 pub quarter-extremes-spec : {M : Type 1} → statement M

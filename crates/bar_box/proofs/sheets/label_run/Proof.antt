@@ -75,7 +75,7 @@ loop-again c =
     let n = counted .count .ensures in (
       search needs,
       call .write-row .kept .1 .0 ∙ inv .1,
-      call .write-row .ensures ∙ rw (all .newest-pairs .ensures, all .before .first-bars .ensures, inv .2) (overlay-row (args .t) (args .len) bars (args .first) (at-loop .loop .j) (args .sheet .now) (args .at) (omega arith) (omega arith)),
+      call .write-row .ensures ∙ rw (all .newest-pairs .ensures, all .before .first-bars .ensures .1, inv .2) (overlay-row (args .t) (args .len) bars (args .first) (at-loop .loop .j) (args .sheet .now) (args .at) (omega arith) (omega arith)),
     )
 
 same-length : tie.Need-same-length Inv-loop μ-loop

@@ -1,4 +1,4 @@
--- The bars of the part are the first ones. Assumes nothing.
+-- The part that the code takes has the first bars. Assumes nothing.
 use Prim.Native.Nat.{_-_, min}
 use mathlib.Core.Path.{_≡_, refl, _∙_}
 use native.Mathlib.Omega.{arith}
@@ -16,7 +16,8 @@ returns c =
     let args = c .before .before .before .before .args in
     let ps = args .prices .now in
     let all : min (args .n) (length (barsOf ps)) - 0 ≡ min (args .n) (length (barsOf ps)) = omega arith in
-    simp (c .part .ensures, c .before .least .ensures, c .before .before .count .ensures) (bars-part ps 0 (min (args .n) (length (barsOf ps))) ∙ rw all (take-least (args .n) (length (barsOf ps)) (barsOf ps) refl))
+    let part = simp (c .before .least .ensures, c .before .before .count .ensures) at (c .part .ensures) in
+    (part, rw part (bars-part ps 0 (min (args .n) (length (barsOf ps))) ∙ rw all (take-least (args .n) (length (barsOf ps)) (barsOf ps) refl)))
 
 pub first-bars-spec : {M : Type 1} → statement M
 first-bars-spec = tie.close (tie.spec (λ c κs. tt) (λ c κs. tt) part-requires returns)

@@ -1,4 +1,4 @@
--- The bars of the part are the window. Assumes nothing.
+-- The part that the code takes is the definition's, and its bars are the window. Assumes nothing.
 use Prim.Native.Nat.{_-_, min}
 use mathlib.Core.Path.{_∙_}
 use native.Mathlib.Omega.{arith}
@@ -6,7 +6,7 @@ use borrow.Author.Needs.{needs}
 use lib.ListN.{length}
 use Rattle.measures.specs.Bar.{barsOf}
 use Rattle.measures.specs.Window.{upTo}
-use Rattle.measures.proofs.RunLaws.{bars-part}
+use Rattle.measures.proofs.RunLaws.{length-bars, bars-part}
 use Rattle.measures.proofs.WindowLaws.{upTo-le, window-part}
 use Rattle.measures.proofs.windows.last_bars.Statement.{statement}
 use Rattle.measures.proofs.windows.last_bars.Tie as tie
@@ -24,7 +24,8 @@ returns c =
     let args = c .before .before .before .before .before .args in
     let bars = barsOf (args .prices .now) in
     let p = upTo (length bars) (args .di) in
-    simp (c .part .ensures, c .before .least .ensures, c .before .before .up-to .ensures, c .before .before .before .count .ensures) (bars-part (args .prices .now) (p - min (args .n) p) p ∙ window-part bars (args .di) (args .n))
+    let part = simp (c .before .least .ensures, c .before .before .up-to .ensures, c .before .before .before .count .ensures) at (c .part .ensures) in
+    (rw length-bars at part, rw part (bars-part (args .prices .now) (p - min (args .n) p) p ∙ window-part bars (args .di) (args .n)))
 
 pub last-bars-spec : {M : Type 1} → statement M
 last-bars-spec =

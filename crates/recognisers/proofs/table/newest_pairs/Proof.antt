@@ -9,8 +9,8 @@ unfolding pairsAt pairsOf pairAt
 returns c =
     simp (
       c .pairs .ensures,
-      c .before .last-bars2 .ensures,
-      c .before .before .last-bars .ensures,
+      c .before .last-bars2 .ensures .1,
+      c .before .before .last-bars .ensures .1,
       c .before .before .before .up-to .ensures,
     )
 
