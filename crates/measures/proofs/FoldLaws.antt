@@ -9,10 +9,10 @@ use lib.ListN.{length, getD, drop}
 use lib.Ieee.{Float, nan, inf, fin, lt, isNan}
 use Rattle.measures.specs.declared.bars.Bar.{Bar}
 use Rattle.measures.specs.declared.folds.Column.{Column}
-use Rattle.measures.specs.Price.{maxOf, minOf}
+use Rattle.prices.specs.Price.{maxOf, minOf}
 use Rattle.measures.specs.Bar.{noBar}
 use Rattle.measures.specs.Fold.{priceOf, columnOf, highestOf, lowestOf, everyOf}
-use Rattle.measures.proofs.Order.{max-assoc, min-assoc, max-known, min-known, max-under, min-over, max-second, min-second}
+use Rattle.prices.proofs.Order.{max-assoc, min-assoc, max-known, min-known, max-under, min-over, max-second, min-second}
 use Rattle.measures.proofs.RunLaws.{from-bar, past-bars}
 
 -- one turn: what is left to fold from the i-th bar on, its price taken in; and the end, where nothing is left

@@ -5,7 +5,7 @@ use mathlib.Core.List.{List, [], _∷_}
 use lib.ListN.{getD}
 use lib.Ieee.{Float, binary64, nan, sub, div, eq, ne, lt}
 use Rattle.measures.specs.declared.bars.Bar.{Bar}
-use Rattle.measures.specs.Price.{maxOf, minOf, absOf}
+use Rattle.prices.specs.Price.{maxOf, minOf, absOf}
 
 -- ---- a bar is a record of four prices: open, close, high, low
 

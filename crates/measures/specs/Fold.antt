@@ -12,7 +12,7 @@ use Rattle.measures.specs.declared.folds.Fold.the-variants.{Highest, Low
 use Rattle.measures.specs.declared.folds.Test.{Test}
 use Rattle.measures.specs.declared.folds.Test.the-variants.{Above, Below}
 use Rattle.measures.specs.declared.folds.Extremes.{Extremes}
-use Rattle.measures.specs.Price.{zero, aQuarter, maxOf, minOf, squareOf}
+use Rattle.prices.specs.Price.{zero, aQuarter, maxOf, minOf, squareOf}
 
 -- the prices of a column of a window
 abbrev pub priceOf : Column → Bar → Float

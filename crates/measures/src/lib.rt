@@ -3,7 +3,6 @@
 // with a definition of specs/, for every input, NaN, infinities and signs of zero included.
 pub mod bars;
 pub mod folds;
-pub mod price;
 pub mod windows;
 
 pub use bars::Bar;
@@ -22,11 +21,12 @@ pub use folds::in_low_side;
 pub use folds::lowest;
 pub use folds::pair_variance;
 pub use folds::variance;
-pub use price::abs;
-pub use price::is_nan;
-pub use price::max;
-pub use price::min;
-pub use price::pick;
+pub use prices::price;
+pub use prices::price::abs;
+pub use prices::price::is_nan;
+pub use prices::price::max;
+pub use prices::price::min;
+pub use prices::price::pick;
 pub use windows::back;
 pub use windows::bar_or_none;
 pub use windows::count;

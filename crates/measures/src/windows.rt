@@ -6,7 +6,7 @@ ghost use lib.ListN.{length, getD, take};
 ghost use Rattle.measures.specs.Bar.{barFrom, barsOf, noBar};
 ghost use Rattle.measures.specs.Window.{upTo, backOf, windowOf, pricesFrom, windowPrices, partOf};
 use crate::bars::Bar;
-use crate::price;
+use prices::price;
 
 // How many bars a run of prices has.
 pub fn count(prices: &[f64]) -> usize

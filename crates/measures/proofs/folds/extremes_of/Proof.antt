@@ -8,10 +8,10 @@ use native.Mathlib.Omega.{arith}
 use lib.Ieee.{inf, isNan}
 use lib.ListN.{length, drop, getD}
 use Rattle.measures.specs.declared.folds.Column.the-variants.{High, Low}
-use Rattle.measures.specs.Price.{maxOf, minOf}
+use Rattle.prices.specs.Price.{maxOf, minOf}
 use Rattle.measures.specs.Bar.{barsOf, noBar}
 use Rattle.measures.specs.Fold.{columnOf, highestOf, lowestOf, extremesOf}
-use Rattle.measures.proofs.Order.{max-stays-known, min-stays-known}
+use Rattle.prices.proofs.Order.{max-stays-known, min-stays-known}
 use Rattle.measures.proofs.FoldLaws.{turn, turned, max-of-known, min-of-known}
 use Rattle.measures.proofs.folds.extremes_of.Statement.{statement}
 use Rattle.measures.proofs.folds.extremes_of.Tie as tie

@@ -1,6 +1,6 @@
-use Rattle.measures.specs.Price.{absOf}
-use Rattle.measures.proofs.price.abs.Statement.{statement}
-use Rattle.measures.proofs.price.abs.Tie as tie
+use Rattle.prices.specs.Price.{absOf}
+use Rattle.prices.proofs.price.abs.Statement.{statement}
+use Rattle.prices.proofs.price.abs.Tie as tie
 
 returns : tie.Need-returns
 unfolding absOf

@@ -2,7 +2,7 @@
 ghost use mathlib.Core.Path.{_≡_};
 ghost use mathlib.Core.Bool.{cond, true, false};
 ghost use lib.Ieee.{isNan, inf, nan};
-ghost use Rattle.measures.specs.Price.{maxOf, minOf, absOf, squareOf};
+ghost use Rattle.prices.specs.Price.{maxOf, minOf, absOf, squareOf};
 
 // x if c holds, else y. The one branch of the measures: what chooses a price calls it.
 pub fn pick(c: bool, x: f64, y: f64) -> f64

@@ -1,8 +1,8 @@
 -- 1.0 / 0.0 is plus infinity, which antt computes.
 use mathlib.Core.Path.{refl}
 use lib.Ieee.{ofBits, div}
-use Rattle.measures.proofs.price.plus_infinity.Statement.{statement}
-use Rattle.measures.proofs.price.plus_infinity.Tie as tie
+use Rattle.prices.proofs.price.plus_infinity.Statement.{statement}
+use Rattle.prices.proofs.price.plus_infinity.Tie as tie
 
 returns : tie.Need-returns
 unfolding ofBits div

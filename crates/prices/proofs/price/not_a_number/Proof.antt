@@ -1,8 +1,8 @@
 -- 0.0 / 0.0 is NaN, which antt computes.
 use mathlib.Core.Path.{refl}
 use lib.Ieee.{ofBits, div}
-use Rattle.measures.proofs.price.not_a_number.Statement.{statement}
-use Rattle.measures.proofs.price.not_a_number.Tie as tie
+use Rattle.prices.proofs.price.not_a_number.Statement.{statement}
+use Rattle.prices.proofs.price.not_a_number.Tie as tie
 
 returns : tie.Need-returns
 unfolding ofBits div

@@ -1,8 +1,8 @@
 -- The code is the definition.
-use Rattle.measures.specs.Price.{squareOf}
+use Rattle.prices.specs.Price.{squareOf}
 use mathlib.Core.Path.{refl}
-use Rattle.measures.proofs.price.square.Statement.{statement}
-use Rattle.measures.proofs.price.square.Tie as tie
+use Rattle.prices.proofs.price.square.Statement.{statement}
+use Rattle.prices.proofs.price.square.Tie as tie
 
 returns : tie.Need-returns
 unfolding squareOf

@@ -1,8 +1,8 @@
 -- -1.0 / 0.0 is minus infinity, which antt computes.
 use mathlib.Core.Path.{refl}
 use lib.Ieee.{ofBits, div, neg}
-use Rattle.measures.proofs.price.minus_infinity.Statement.{statement}
-use Rattle.measures.proofs.price.minus_infinity.Tie as tie
+use Rattle.prices.proofs.price.minus_infinity.Statement.{statement}
+use Rattle.prices.proofs.price.minus_infinity.Tie as tie
 
 returns : tie.Need-returns
 unfolding ofBits div neg

@@ -4,8 +4,8 @@ use Prim.Native.Nat.{_*_}
 use mathlib.Core.Bool.{true, false}
 use lib.Ieee.{Float, nan, inf, fin, up, down, ne, isNan}
 use borrow.Author.Tests.{eq-eqb}
-use Rattle.measures.proofs.price.is_nan.Statement.{statement}
-use Rattle.measures.proofs.price.is_nan.Tie as tie
+use Rattle.prices.proofs.price.is_nan.Statement.{statement}
+use Rattle.prices.proofs.price.is_nan.Tie as tie
 
 differs : (x : Float) → ne x x ≡ isNan x
 unfolding ne isNan

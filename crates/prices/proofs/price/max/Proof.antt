@@ -1,7 +1,7 @@
 -- The choice of the code is the definition's: there is one NaN. Assumes nothing.
-use Rattle.measures.proofs.Order.{max-by-choice}
-use Rattle.measures.proofs.price.max.Statement.{statement}
-use Rattle.measures.proofs.price.max.Tie as tie
+use Rattle.prices.proofs.Order.{max-by-choice}
+use Rattle.prices.proofs.price.max.Statement.{statement}
+use Rattle.prices.proofs.price.max.Tie as tie
 
 returns : tie.Need-returns
 returns c =

@@ -1,0 +1,2 @@
+-- Laws that the proofs of several functions, and the crates above, cite.
+pub mod Order
