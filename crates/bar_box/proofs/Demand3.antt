@@ -10,12 +10,11 @@ use lib.Ieee.{le, ofBits}
 use Rattle.measures.specs.declared.bars.Bar.{Bar}
 use Rattle.measures.specs.Window.{newest}
 use Rattle.measures.proofs.WindowLaws.{upTo-in}
-use Rattle.recognisers.specs.declared.thresholds.Thresholds.{Thresholds}
+use Rattle.recognisers.specs.Threshold.{Thresholds, standardSet, validOf}
 use Rattle.recognisers.specs.declared.call.Refusal.the-variants.{BadThreshold}
 use Rattle.recognisers.specs.declared.call.Verdict.the-variants.{Accepted, Denied}
 use Rattle.recognisers.specs.declared.call.Answer.the-variants.{Labels}
 use Rattle.recognisers.specs.Number.{recognisers, rowBytes, places, farthestLook}
-use Rattle.recognisers.specs.Threshold.{standardSet, validOf}
 use Rattle.recognisers.specs.Table.{pairAt, codesOf}
 use Rattle.recognisers.specs.Refusal.{firstTrue}
 use Rattle.bar_box.specs.declared.boxes.BarBox.{BarBox}

@@ -12,11 +12,10 @@ use lib.Seq.{take-at}
 use Rattle.measures.specs.declared.bars.Bar.{Bar}
 use Rattle.measures.specs.Bar.{barsOf}
 use Rattle.measures.specs.Window.{newest}
-use Rattle.recognisers.specs.declared.thresholds.Thresholds.{Thresholds}
+use Rattle.recognisers.specs.Threshold.{Thresholds, validOf}
 use Rattle.recognisers.specs.declared.call.Verdict.{Verdict}
 use Rattle.recognisers.specs.declared.call.Verdict.the-variants.{Accepted, Denied}
 use Rattle.recognisers.specs.Number.{rowBytes, mostBars, places}
-use Rattle.recognisers.specs.Threshold.{validOf}
 use Rattle.recognisers.specs.Refusal.{Tried, firstTrue}
 use Rattle.bar_box.specs.declared.boxes.BarBox.{BarBox}
 use Rattle.bar_box.specs.Sheet.{before, rowsOf, overlay}

@@ -11,11 +11,10 @@ use lib.Seq.{take-length}
 use Rattle.measures.specs.declared.bars.Bar.{Bar}
 use Rattle.measures.specs.Window.{upTo, windowOf}
 use Rattle.measures.proofs.WindowLaws.{upTo-one}
-use Rattle.recognisers.specs.declared.thresholds.Thresholds.{Thresholds}
+use Rattle.recognisers.specs.Threshold.{Thresholds, validOf}
 use Rattle.recognisers.specs.declared.call.Verdict.the-variants.{Accepted}
 use Rattle.recognisers.specs.declared.call.Answer.the-variants.{Labels}
 use Rattle.recognisers.specs.Number.{recognisers, gated, reachBars, mostBars, farthestLook}
-use Rattle.recognisers.specs.Threshold.{validOf}
 use Rattle.recognisers.specs.Table.{pairAt}
 use Rattle.recognisers.specs.Refusal.{firstTrue}
 use Rattle.recognisers.proofs.Reach as reach

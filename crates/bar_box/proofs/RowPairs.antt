@@ -10,7 +10,7 @@ use lib.ListN.{length, getD, take, drop, length-drop, take-append-drop}
 use lib.Seq.{take-suc, drop-cons, length-take-le, take-append-le, drop-append-le, drop-append-add}
 use Rattle.measures.specs.declared.bars.Bar.{Bar}
 use Rattle.measures.specs.Bar.{noBar}
-use Rattle.recognisers.specs.declared.thresholds.Thresholds.{Thresholds}
+use Rattle.recognisers.specs.Threshold.{Thresholds}
 use Rattle.recognisers.specs.Label.{Pair, pairA}
 use Rattle.recognisers.specs.Number.{recognisers, rowBytes}
 use Rattle.recognisers.specs.Table.{numbers, pairAt, pairsAt, codesOf}

@@ -13,7 +13,7 @@ use Rattle.measures.specs.Bar.{barsOf}
 use Rattle.measures.specs.Window.{newest}
 use Rattle.measures.proofs.RunLaws.{length-bars, bars-take}
 use Rattle.measures.proofs.WindowLaws.{drop-take}
-use Rattle.recognisers.specs.declared.thresholds.Thresholds.{Thresholds}
+use Rattle.recognisers.specs.Threshold.{Thresholds}
 use Rattle.recognisers.specs.Number.{places, rowBytes}
 use Rattle.bar_box.specs.Sheet.{before, rowsOf, overlay}
 use Rattle.bar_box.specs.Box.{laid}

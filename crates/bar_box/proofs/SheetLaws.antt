@@ -11,7 +11,7 @@ use Rattle.measures.specs.declared.bars.Bar.{Bar}
 use Rattle.measures.specs.Window.{newest}
 use Rattle.measures.proofs.WindowLaws.{window-reach}
 use Rattle.recognisers.specs.Label.{Pair}
-use Rattle.recognisers.specs.declared.thresholds.Thresholds.{Thresholds}
+use Rattle.recognisers.specs.Threshold.{Thresholds}
 use Rattle.recognisers.specs.Number.{recognisers, rowBytes, reachBars, quarterBars, gateEnd}
 use Rattle.recognisers.specs.Table.{numbers, pairAt, pairsAt, codesOf}
 use Rattle.bar_box.specs.Sheet.{before, rowOf, rowsOf}

@@ -8,13 +8,12 @@ use Rattle.measures.specs.declared.bars.Bar.{Bar}
 use Rattle.measures.specs.Price.{zero}
 use Rattle.measures.specs.Bar.{barOf, barsOf}
 use Rattle.measures.specs.Window.{newest}
-use Rattle.recognisers.specs.declared.thresholds.Thresholds.{Thresholds}
+use Rattle.recognisers.specs.Threshold.{Thresholds, standardSet}
 use Rattle.recognisers.specs.declared.call.Verdict.{Verdict}
 use Rattle.recognisers.specs.declared.call.Verdict.the-variants.{Accepted, Denied}
 use Rattle.recognisers.specs.declared.call.Answer.{Answer}
 use Rattle.recognisers.specs.declared.call.Answer.the-variants.{Labels}
 use Rattle.recognisers.specs.Number.{places}
-use Rattle.recognisers.specs.Threshold.{standardSet}
 use Rattle.recognisers.specs.Table.{pairAt}
 use Rattle.recognisers.specs.Refusal.{unknownRecogniser, zeroOffset, badThreshold, brokenBars, tooManyBars, shortSheet, farLook, firstTrue, answerTo}
 use Rattle.bar_box.specs.declared.boxes.BarBox.{BarBox}

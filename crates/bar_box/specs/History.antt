@@ -9,12 +9,11 @@ use lib.Ieee.{Float}
 use Rattle.measures.specs.declared.bars.Bar.{Bar}
 use Rattle.measures.specs.Bar.{barsOf}
 use Rattle.measures.specs.Window.{newest}
-use Rattle.recognisers.specs.declared.thresholds.Thresholds.{Thresholds}
+use Rattle.recognisers.specs.Threshold.{Thresholds, standardSet, validOf}
 use Rattle.recognisers.specs.declared.call.Verdict.{Verdict}
 use Rattle.recognisers.specs.declared.call.Verdict.the-variants.{Accepted}
 use Rattle.recognisers.specs.declared.call.Answer.the-variants.{Labels}
 use Rattle.recognisers.specs.Number.{recognisers, rowBytes, gated, places, farthestLook}
-use Rattle.recognisers.specs.Threshold.{standardSet, validOf}
 use Rattle.recognisers.specs.Table.{pairAt, codesOf}
 use Rattle.recognisers.specs.Refusal.{codesIn}
 use Rattle.bar_box.specs.declared.boxes.BarBox.{BarBox}

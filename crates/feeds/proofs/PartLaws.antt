@@ -12,7 +12,7 @@ use Rattle.measures.specs.declared.bars.Bar.{Bar}
 use Rattle.measures.specs.Bar.{barsOf}
 use Rattle.measures.specs.Window.{newest}
 use Rattle.measures.proofs.RunLaws.{length-bars, bars-drop, bars-take}
-use Rattle.recognisers.specs.declared.thresholds.Thresholds.{Thresholds}
+use Rattle.recognisers.specs.Threshold.{Thresholds}
 use Rattle.recognisers.specs.declared.call.Verdict.the-variants.{Accepted}
 use Rattle.recognisers.specs.Number.{places}
 use Rattle.recognisers.specs.Refusal.{firstTrue}

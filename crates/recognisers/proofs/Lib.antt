@@ -1,5 +1,4 @@
--- Theorems about the recognisers as a whole (KnownLabels, Reach), and laws that the proofs of several functions cite.
-pub mod KnownLabels
+-- Laws that the proofs of several functions cite, and those of the table, passed on.
 pub mod Reach
 pub mod TableLaws
 pub mod ByteLaws

@@ -5,7 +5,7 @@ use lib.Dec.{eqb}
 use lib.ListN.{length, getD, take, drop}
 use lib.Ieee.{Float, binary64, ofBits}
 use Rattle.measures.specs.Bar.{barsOf}
-use Rattle.recognisers.specs.declared.thresholds.Thresholds.{Thresholds}
+use Rattle.rule_table.specs.declared.thresholds.Thresholds.{Thresholds}
 use Rattle.rule_types.specs.declared.label.Pair.{Pair}
 use Rattle.recognisers.specs.declared.call.Answer.{Answer}
 use Rattle.recognisers.specs.declared.call.Answer.the-variants.{Labels, Refused}

@@ -1,5 +1,5 @@
--- The recognisers as definitions, from document 01: its thresholds, "The eighteen", "Why a call is refused", and the export of "The
--- other ways in".
+-- The recognisers as definitions, from document 01: "Why a call is refused", and the export of "The other ways in"; labels, numbers,
+-- thresholds and the table of "The eighteen" are passed on.
 pub mod Number
 pub mod Label
 pub mod Threshold

@@ -7,16 +7,16 @@ use lib.ListN.{length}
 use lib.Ieee.{Float}
 use Rattle.measures.specs.declared.bars.Bar.{Bar}
 use Rattle.measures.specs.Bar.{barsOf}
-use Rattle.recognisers.specs.declared.thresholds.Thresholds.{Thresholds}
+use Rattle.rule_table.specs.declared.thresholds.Thresholds.{Thresholds}
 use Rattle.recognisers.specs.declared.call.Refusal.{Refusal}
 use Rattle.recognisers.specs.declared.call.Refusal.the-variants.{UnknownRecogniser, ZeroOffset, BadThreshold, BrokenBars, TooManyBars, ShortSheet, FarLook, BadLine}
 use Rattle.recognisers.specs.declared.call.Verdict.{Verdict}
 use Rattle.recognisers.specs.declared.call.Verdict.the-variants.{Accepted, Denied}
 use Rattle.recognisers.specs.declared.call.Answer.{Answer}
 use Rattle.recognisers.specs.declared.call.Answer.the-variants.{Labels, Refused}
-use Rattle.recognisers.specs.Threshold.{validOf}
+use Rattle.rule_table.specs.Threshold.{validOf}
 use Rattle.rule_types.specs.Number.{recognisers, rowBytes, mostBars, farthestLook, longestLine}
-use Rattle.recognisers.specs.Table.{pairAt, codesOf}
+use Rattle.rule_table.specs.Table.{pairAt, codesOf}
 
 -- ---- the numbers
 

@@ -1,8 +1,8 @@
 // The plain call, and why a call is refused.
 ghost use mathlib.Core.Path.{_≡_};
 ghost use Rattle.recognisers.specs.Refusal.{refusalNumber, plainVerdict, recogniseOf};
-use crate::table;
-use crate::thresholds::Thresholds;
+use rule_table::table;
+use rule_table::thresholds::Thresholds;
 use rule_types::counts;
 use rule_types::label::Pair;
 

@@ -14,7 +14,7 @@ use Rattle.measures.specs.Bar.{barOf, noBar, barsOf}
 use Rattle.measures.specs.Window.{upTo, windowOf}
 use Rattle.measures.proofs.RunLaws.{from-bar}
 use Rattle.measures.proofs.WindowLaws.{window-part}
-use Rattle.recognisers.specs.declared.thresholds.Thresholds.{Thresholds}
+use Rattle.recognisers.specs.Threshold.{Thresholds}
 use Rattle.recognisers.specs.Label.{Pair}
 use Rattle.recognisers.specs.declared.call.Answer.the-variants.{Labels}
 use Rattle.recognisers.specs.Number.{gated, reachBars, quarterBars, gateEnd}

@@ -12,7 +12,7 @@ use Rattle.replay.specs.Thresholds.{thresholdsOf}
 use Rattle.replay.specs.declared.command.Command.{Command}
 use Rattle.replay.specs.declared.command.Command.the-variants.{New, Bar, Thresholds, Call, Bad}
 use Rattle.replay.specs.declared.session.Session.{Session}
-use Rattle.recognisers.specs.declared.thresholds.Thresholds as declared
+use Rattle.rule_table.specs.declared.thresholds.Thresholds as declared
 
 -- one bar more, where there is room
 unfoldable pub withBar : List ℕ → List ℕ → List ℕ

@@ -2,7 +2,7 @@
 use Prim.Native.Nat.{ℕ}
 use mathlib.Core.List.{List}
 use Rattle.replay.specs.Number.{u32At, f64At}
-use Rattle.recognisers.specs.declared.thresholds.Thresholds.{Thresholds}
+use Rattle.recognisers.specs.Threshold.{Thresholds}
 
 unfoldable pub thresholdsOf : List ℕ → Thresholds
 thresholdsOf s =

@@ -2,7 +2,7 @@
 use mathlib.Core.Path.{_∙_, ap, sym}
 use borrow.Author.Needs.{needs}
 use lib.ListN.{length}
-use Rattle.recognisers.specs.declared.thresholds.Thresholds.{Thresholds}
+use Rattle.recognisers.specs.Threshold.{Thresholds}
 use Rattle.bar_box.specs.declared.boxes.Outcome.{Outcome}
 use Rattle.bar_box.specs.Box.{madeOf, feedVerdict, fedOf, sheetOf}
 use Rattle.feeds.proofs.PartLaws.{made-fresh}

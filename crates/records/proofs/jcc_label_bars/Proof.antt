@@ -39,20 +39,19 @@ use denote.Triple.Table.{entered, cited}
 use denote.Triple.Walked.{says, Stay, Stays, stay-none-slice, stay-none, walkOf, goes-none-slice, goes-none, Goes, Walks, ends-at, walked, walk-meets}
 use denote.Exit.{yes}
 use Rattle.measures.specs.declared.bars.Bar.{Bar}
-use Rattle.recognisers.specs.declared.thresholds.Thresholds.{Thresholds}
+use Rattle.recognisers.specs.Threshold.{Thresholds, thresholdsOf}
 use Rattle.recognisers.specs.declared.call.Answer.{Answer}
-use Rattle.recognisers.specs.Threshold.{thresholdsOf}
 use Rattle.recognisers.specs.Refusal.{plainAnswer}
 use Rattle.recognisers.specs.Export.{resultOf}
 use Rattle.records.proofs.Walk.{own, own-u32, own-f64, past}
 use Rattle.measures.proofs.bars.Bar as T
-use Rattle.recognisers.proofs.thresholds.Thresholds as S
-use Rattle.recognisers.proofs.thresholds.Thresholds.Laws as S′
+use Rattle.rule_table.proofs.thresholds.Thresholds as S
+use Rattle.rule_table.proofs.thresholds.Thresholds.Laws as S′
 use Rattle.recognisers.proofs.call.Answer as R
 use Rattle.recognisers.proofs.call.Answer.Laws as R′
-use Rattle.recognisers.proofs.thresholds.Thresholds.new as new
-use Rattle.recognisers.proofs.thresholds.Thresholds.new.Symbol as new-def
-use Rattle.recognisers.proofs.thresholds.Thresholds.new.Met as new-thm
+use Rattle.rule_table.proofs.thresholds.Thresholds.new as new
+use Rattle.rule_table.proofs.thresholds.Thresholds.new.Symbol as new-def
+use Rattle.rule_table.proofs.thresholds.Thresholds.new.Met as new-thm
 use Rattle.recognisers.proofs.export.answer_number as number
 use Rattle.recognisers.proofs.export.answer_number.Symbol as number-def
 use Rattle.recognisers.proofs.export.answer_number.Met as number-thm
@@ -249,6 +248,6 @@ jcc-label-bars-spec 𝓤 H 𝓜 𝓖 𝓡 =
     entered 𝓤 H (tripleOf 𝓤 H (𝓖 .A) f.signature (f.spec 𝓤 H (𝓖 .A) (𝓜 .mem) (𝓡 .run)))
     (tables 𝓤 H 𝓜 𝓡 code.env .C) (tables 𝓤 H 𝓜 𝓡 code.env .Λ) #records·jcc-label-bars code.function (code.unfolded 𝓤 H 𝓜 𝓡)
     (jcc-label-bars-meets 𝓤 H (𝓖 .A) (givenOf 𝓤 H 𝓜 𝓖) (𝓜 .mem) (𝓡 .run) (tablesOf 𝓤 H 𝓜 (tables 𝓤 H 𝓜 𝓡 code.env))
-    (cited 𝓤 H (New 𝓤 H (𝓖 .A) (𝓜 .mem) (𝓡 .run)) 𝓜 𝓡 code.env new-def.name new-def.routine code.calls-recognisers·thresholds·Thresholds·new (new-thm.met 𝓤 H 𝓜 𝓖 𝓡))
+    (cited 𝓤 H (New 𝓤 H (𝓖 .A) (𝓜 .mem) (𝓡 .run)) 𝓜 𝓡 code.env new-def.name new-def.routine code.calls-rule-table·thresholds·Thresholds·new (new-thm.met 𝓤 H 𝓜 𝓖 𝓡))
     (cited 𝓤 H (Recognise 𝓤 H (𝓖 .A) (𝓜 .mem) (𝓡 .run)) 𝓜 𝓡 code.env recognise-def.name recognise-def.routine code.calls-records·recognise-bars (recognise-thm.met 𝓤 H 𝓜 𝓖 𝓡))
     (cited 𝓤 H (Number 𝓤 H (𝓖 .A) (𝓜 .mem) (𝓡 .run)) 𝓜 𝓡 code.env number-def.name number-def.routine code.calls-recognisers·export·answer-number (number-thm.met 𝓤 H 𝓜 𝓖 𝓡)))

@@ -42,7 +42,7 @@ use denote.Triple.Walked.{says, Stays, stay-none-slice, stay-none, walkOf, goes-
 use denote.Exit.{yes}
 use Rattle.measures.specs.declared.bars.Bar.{Bar}
 use Rattle.measures.specs.Window.{upTo, windowOf}
-use Rattle.recognisers.specs.declared.thresholds.Thresholds.{Thresholds}
+use Rattle.recognisers.specs.Threshold.{Thresholds}
 use Rattle.recognisers.specs.declared.call.Answer.{Answer}
 use Rattle.recognisers.specs.declared.call.Answer.the-variants.{Labels}
 use Rattle.recognisers.specs.Number.{gated, reachBars, quarterBars, gateEnd}
@@ -53,8 +53,8 @@ use Rattle.records.specs.Held.{barsIn}
 use Rattle.records.proofs.HeldLaws.{answer-held}
 use Rattle.records.proofs.Walk.{own, own-u32, own-usize}
 use Rattle.measures.proofs.bars.Bar as T
-use Rattle.recognisers.proofs.thresholds.Thresholds as S
-use Rattle.recognisers.proofs.thresholds.Thresholds.Laws as S′
+use Rattle.rule_table.proofs.thresholds.Thresholds as S
+use Rattle.rule_table.proofs.thresholds.Thresholds.Laws as S′
 use Rattle.recognisers.proofs.call.Answer as R
 use Rattle.recognisers.proofs.call.Answer.Laws as R′
 use Rattle.records.proofs.Window as N

@@ -5,10 +5,10 @@ use lib.ListN.{length-take}
 use Rattle.measures.specs.Bar.{barsOf}
 use Rattle.measures.specs.Window.{windowOf}
 use Rattle.rule_types.specs.Number.{reachBars}
-use Rattle.recognisers.specs.Table.{pairAt}
+use Rattle.rule_table.specs.Table.{pairAt}
 use Rattle.recognisers.specs.Export.{pricesOf}
 use Rattle.recognisers.proofs.ByteLaws.{length-history}
-use Rattle.recognisers.proofs.TableLaws.{gate-enough}
+use Rattle.rule_table.proofs.TableLaws.{gate-enough}
 use Rattle.recognisers.proofs.export.pair_at.Statement.{statement}
 use Rattle.recognisers.proofs.export.pair_at.Tie as tie
 

@@ -15,12 +15,12 @@ use Rattle.rule_types.specs.declared.label.Label.the-variants.{Other, Any, Met,
 use Rattle.rule_types.specs.declared.label.Pair.{Pair}
 use Rattle.rule_types.specs.Number.{wholeOf, aHundred}
 use Rattle.rule_types.specs.Label.{pairOf}
-use Rattle.recognisers.specs.Threshold.{standardSet}
+use Rattle.rule_table.specs.Threshold.{standardSet}
 use Rattle.quarter_rules.specs.QuarterRule.{cutOf, umbrellaOf, sanXingXian, tenMo, fenShouXian}
 use Rattle.bar_rules.specs.BarRule.{longShadow, yunXian, flatOf, pingTou, twoCrow, gateShut, crowPair, threeCrow}
 use Rattle.star_rules.specs.StarRule.{dojiKind, northernOf, szx}
 use Rattle.growing_rules.specs.GrowingRule.{sizes, sizeLabel, firstMatch, firstOf, lastOf, innerOf, risesOf, fallsOf, threeMethods, sanFaV20221118, insertOf, bodiesDown, bodiesUp, lastButOne, bodiesKnown, endsLead, topOf, bottomOf, tower, taXing}
-use Rattle.recognisers.specs.Table.{seenOf, rows, rowOf, judgeOf, pairAt}
+use Rattle.rule_table.specs.Table.{seenOf, rows, rowOf, judgeOf, pairAt}
 
 pub bar : ℕ → ℕ → ℕ → ℕ → Bar
 bar o c h l = barOf (wholeOf o) (wholeOf c) (wholeOf h) (wholeOf l)

@@ -5,7 +5,7 @@ ghost use lib.Dec.{ltb, leb};
 ghost use Rattle.measures.specs.Bar.{barsOf};
 ghost use Prim.Native.Nat.{_<_};
 ghost use Rattle.rule_types.specs.Number.{recognisers, reachBars};
-ghost use Rattle.recognisers.specs.Table.{rowOf, ruleOf, judgeOf, pairAt, pairsAt, rulesOf, pairsOf};
+ghost use Rattle.rule_table.specs.Table.{rowOf, ruleOf, judgeOf, pairAt, pairsAt, rulesOf, pairsOf};
 use crate::thresholds::Thresholds;
 use measures::back;
 use quarter_rules::quarter_extremes;

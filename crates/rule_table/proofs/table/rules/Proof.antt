@@ -2,10 +2,10 @@
 use mathlib.Core.Path.{_≡_, refl}
 use Rattle.measures.specs.Bar.{barsOf}
 use Rattle.growing_rules.proofs.GrowingLaws.{san-fa-near, ta-xing-near}
-use Rattle.recognisers.specs.Table.{rowOf, rows, seenOf, numbers, ruleOf, rulesOf}
-use Rattle.recognisers.proofs.TableLaws.{both}
-use Rattle.recognisers.proofs.table.rules.Statement.{statement}
-use Rattle.recognisers.proofs.table.rules.Tie as tie
+use Rattle.rule_table.specs.Table.{rowOf, rows, seenOf, numbers, ruleOf, rulesOf}
+use Rattle.rule_table.proofs.TableLaws.{both}
+use Rattle.rule_table.proofs.table.rules.Statement.{statement}
+use Rattle.rule_table.proofs.table.rules.Tie as tie
 
 returns : tie.Need-returns
 unfolding rulesOf numbers rowOf rows seenOf

@@ -7,10 +7,10 @@ use borrow.Author.Needs.{needs}
 use lib.ListN.{length, take, drop, length-set, drop-of-length-le}
 use lib.Seq.{take-all}
 use Rattle.rule_types.specs.Label.{pairA}
-use Rattle.recognisers.specs.Table.{judgeOf, numbers, rulesOf, pairsOf}
-use Rattle.recognisers.proofs.TableLaws.{shortOrs, length-shortOrs, shortOrs-first, length-rules, shortOrs-rules, short-start, place-next}
-use Rattle.recognisers.proofs.table.pairs.Statement.{statement}
-use Rattle.recognisers.proofs.table.pairs.Tie as tie
+use Rattle.rule_table.specs.Table.{judgeOf, numbers, rulesOf, pairsOf}
+use Rattle.rule_table.proofs.TableLaws.{shortOrs, length-shortOrs, shortOrs-first, length-rules, shortOrs-rules, short-start, place-next}
+use Rattle.rule_table.proofs.table.pairs.Statement.{statement}
+use Rattle.rule_table.proofs.table.pairs.Tie as tie
 
 abbrev Inv-loop : tie.InvT-loop
 Inv-loop len p w gate full pairs₀ k₀ pairs k = (k ≤ 18) × (length full ≡ 18) × (length pairs ≡ 18) × (pairs ≡ take k (shortOrs p 0 full) ++ drop k full)

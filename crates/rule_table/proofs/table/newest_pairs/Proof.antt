@@ -1,8 +1,8 @@
 -- The code is the definition.
-use Rattle.recognisers.specs.Table.{pairsAt, pairsOf, pairAt}
+use Rattle.rule_table.specs.Table.{pairsAt, pairsOf, pairAt}
 use borrow.Author.Needs.{needs}
-use Rattle.recognisers.proofs.table.newest_pairs.Statement.{statement}
-use Rattle.recognisers.proofs.table.newest_pairs.Tie as tie
+use Rattle.rule_table.proofs.table.newest_pairs.Statement.{statement}
+use Rattle.rule_table.proofs.table.newest_pairs.Tie as tie
 
 returns : tie.Need-returns
 unfolding pairsAt pairsOf pairAt

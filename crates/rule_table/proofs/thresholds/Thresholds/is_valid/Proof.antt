@@ -1,7 +1,7 @@
 -- The code is the definition.
-use Rattle.recognisers.specs.Threshold.{validOf}
-use Rattle.recognisers.proofs.thresholds.Thresholds.is_valid.Statement.{statement}
-use Rattle.recognisers.proofs.thresholds.Thresholds.is_valid.Tie as tie
+use Rattle.rule_table.specs.Threshold.{validOf}
+use Rattle.rule_table.proofs.thresholds.Thresholds.is_valid.Statement.{statement}
+use Rattle.rule_table.proofs.thresholds.Thresholds.is_valid.Tie as tie
 
 returns : tie.Need-returns
 unfolding validOf

@@ -1,6 +1,6 @@
 // The thresholds of the recognisers.
 ghost use mathlib.Core.Path.{_≡_};
-ghost use Rattle.recognisers.specs.Threshold.{thresholdsOf, standardSet, floatWithin, wholeWithin, validOf};
+ghost use Rattle.rule_table.specs.Threshold.{thresholdsOf, standardSet, floatWithin, wholeWithin, validOf};
 use rule_types::counts::MOST_WHOLE;
 
 // The digit at the end of a name is the recogniser's number.

@@ -1,0 +1,3 @@
+-- The recognisers' thresholds, and the table of "The eighteen".
+pub mod Threshold
+pub mod Table
