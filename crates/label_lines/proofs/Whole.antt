@@ -11,10 +11,10 @@ use Rattle.recognisers.specs.Threshold.{standardSet}
 use Rattle.bar_box.specs.declared.boxes.BarBox.{BarBox}
 use Rattle.bar_box.specs.Box.{freshBox}
 use Rattle.text.specs.Lines.{lineFeed, linesFrom, keptLine}
-use Rattle.text.proofs.LineLaws.{lines-end, lines-last, lines-feed, lines-byte}
+use Rattle.text.proofs.LineLaws.{lines-end, lines-last, lines-feed, lines-byte, kept-kept}
 use Rattle.label_lines.specs.Output.{Step, stepOf, printedOf, outputOf}
 use Rattle.label_lines.specs.Session.{State, freshState, ended, grown, byteLeaves, bytePrints, leaves, prints, endPrints, readsPrint, joined}
-use Rattle.label_lines.proofs.SessionLaws.{step-kept, leaves-append, prints-append, stopped-leaves, stopped-prints, kept-kept, byte-grows, byte-ends, byte-quiet, feed-prints}
+use Rattle.label_lines.proofs.SessionLaws.{step-kept, leaves-append, prints-append, stopped-leaves, stopped-prints, byte-grows, byte-ends, byte-quiet, feed-prints}
 
 -- what bytes print, and then the input's end
 abbrev allPrint : State → List ℕ → List ℕ

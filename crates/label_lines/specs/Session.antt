@@ -1,16 +1,17 @@
 -- The labels program, byte by byte, as the code has it: what it holds between two reads, and what it prints for the bytes of one.
 -- That this is what the input's lines print is proved in proofs/Whole.antt.
-use Prim.Native.Nat.{ℕ}
+use Prim.Native.Nat.{ℕ, suc, _-_}
 use mathlib.Core.Bool.{Bool, false, cond, _||_}
 use mathlib.Core.List.{List, [], _∷_, _++_}
-use lib.Dec.{eqb}
-use lib.ListN.{length}
+use lib.Dec.{ltb, eqb}
+use lib.ListN.{length, take}
 use Rattle.recognisers.specs.Threshold.{standardSet}
 use Rattle.bar_box.specs.declared.boxes.BarBox.{BarBox}
 use Rattle.bar_box.specs.Box.{freshBox}
-use Rattle.text.specs.Lines.{lineFeed, keptLine, content}
+use Rattle.text.specs.Lines.{lineFeed, keptLine, content, partialOf}
 use Rattle.label_lines.specs.declared.session.Session.{Session}
-use Rattle.label_lines.specs.Output.{stepOf}
+use Rattle.label_lines.specs.declared.session.Absorbed.{Absorbed}
+use Rattle.label_lines.specs.Output.{lineRoom, stepOf}
 
 -- the line that has begun, of which the first bytes are kept, the box, and whether a line was refused
 pub record State : Type 0 where
@@ -20,6 +21,9 @@ pub record State : Type 0 where
 
 abbrev pub stateOf : Session → State
 stateOf s = record { line = content (s .line); box = s .held; stopped = s .stopped }
+
+abbrev pub sessionOf : State → Session
+sessionOf s = record { line = partialOf (s .line); held = s .box; stopped = s .stopped }
 
 abbrev pub freshState : State
 freshState = record { line = []; box = freshBox standardSet; stopped = false }
@@ -47,6 +51,24 @@ leaves s (b ∷ bytes) = leaves (byteLeaves s b) bytes
 unfoldable pub prints : State → List ℕ → List ℕ
 prints s [] = []
 prints s (b ∷ bytes) = bytePrints s b ++ prints (byteLeaves s b) bytes
+
+-- how many of the bytes are taken in: each, as long as no line was refused and the room left is enough for what a line may print
+unfoldable pub usedOf : ℕ → State → List ℕ → ℕ
+usedOf room s [] = 0
+usedOf room s (b ∷ bytes) =
+    cond (s .stopped || ltb room lineRoom) 0 (suc (usedOf (room - length (bytePrints s b)) (byteLeaves s b) bytes))
+
+abbrev pub takenIn : ℕ → State → List ℕ → List ℕ
+takenIn room s bytes = take (usedOf room s bytes) bytes
+
+-- a session after the bytes that are taken in, into a buffer of this length
+abbrev pub absorbedOf : Session → List ℕ → ℕ → Absorbed
+absorbedOf st bytes room =
+    record {
+      session = sessionOf (leaves (stateOf st) (takenIn room (stateOf st) bytes));
+      used = usedOf room (stateOf st) bytes;
+      written = length (prints (stateOf st) (takenIn room (stateOf st) bytes));
+    }
 
 -- what the input's end prints: a line that has begun ends there
 unfoldable pub endPrints : State → List ℕ
