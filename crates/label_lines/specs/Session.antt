@@ -4,7 +4,7 @@ use Prim.Native.Nat.{ℕ, suc, _-_}
 use mathlib.Core.Bool.{Bool, false, cond, _||_}
 use mathlib.Core.List.{List, [], _∷_, _++_}
 use lib.Dec.{ltb, eqb}
-use lib.ListN.{length, take}
+use lib.ListN.{length, take, drop}
 use Rattle.recognisers.specs.Threshold.{standardSet}
 use Rattle.bar_box.specs.declared.boxes.BarBox.{BarBox}
 use Rattle.bar_box.specs.Box.{freshBox}
@@ -58,16 +58,16 @@ usedOf room s [] = 0
 usedOf room s (b ∷ bytes) =
     cond (s .stopped || ltb room lineRoom) 0 (suc (usedOf (room - length (bytePrints s b)) (byteLeaves s b) bytes))
 
-abbrev pub takenIn : ℕ → State → List ℕ → List ℕ
-takenIn room s bytes = take (usedOf room s bytes) bytes
+abbrev pub takenOf : ℕ → State → List ℕ → List ℕ
+takenOf room s bytes = take (usedOf room s bytes) bytes
 
 -- a session after the bytes that are taken in, into a buffer of this length
 abbrev pub absorbedOf : Session → List ℕ → ℕ → Absorbed
 absorbedOf st bytes room =
     record {
-      session = sessionOf (leaves (stateOf st) (takenIn room (stateOf st) bytes));
+      session = sessionOf (leaves (stateOf st) (takenOf room (stateOf st) bytes));
       used = usedOf room (stateOf st) bytes;
-      written = length (prints (stateOf st) (takenIn room (stateOf st) bytes));
+      written = length (prints (stateOf st) (takenOf room (stateOf st) bytes));
     }
 
 -- what the input's end prints: a line that has begun ends there
@@ -78,6 +78,12 @@ endPrints s = cond (s .stopped || eqb (length (s .line)) 0) [] (stepOf (s .box) 
 unfoldable pub readsPrint : State → List (List ℕ) → List ℕ
 readsPrint s [] = endPrints s
 readsPrint s (bytes ∷ reads) = prints s bytes ++ readsPrint (leaves s bytes) reads
+
+-- the parts of an input that are taken in one after the other, into buffers of these lengths
+unfoldable pub partsOf : State → List ℕ → List ℕ → List (List ℕ)
+partsOf s [] input = []
+partsOf s (room ∷ rooms) input =
+    takenOf room s input ∷ partsOf (leaves s (takenOf room s input)) rooms (drop (usedOf room s input) input)
 
 -- the bytes of several reads as one input
 unfoldable pub joined : List (List ℕ) → List ℕ

@@ -8,7 +8,7 @@ ghost use lib.ListN.{length, take};
 ghost use Rattle.bar_box.specs.Sheet.{overlay};
 ghost use Rattle.text.specs.Lines.{content};
 ghost use Rattle.label_lines.specs.Output.{lineRoom, refusalLine, fedStep, stepOf};
-ghost use Rattle.label_lines.specs.Session.{stateOf, sessionOf, freshState, leaves, prints, usedOf, takenIn, absorbedOf, endPrints};
+ghost use Rattle.label_lines.specs.Session.{stateOf, sessionOf, freshState, leaves, prints, usedOf, takenOf, absorbedOf, endPrints};
 use crate::output;
 use bar_box::BarBox;
 use measures::Bar;
@@ -136,7 +136,7 @@ fn advance(st: Session, chunk: &[u8], out: &mut [u8], at: usize) -> Absorbed
             session: Session {
                 line,
                 held,
-                stopped: false,
+                stopped: st.stopped,
             },
             used: k,
             written: at,
@@ -145,13 +145,14 @@ fn advance(st: Session, chunk: &[u8], out: &mut [u8], at: usize) -> Absorbed
 }
 
 // Bytes of input, as long as no line is refused and the buffer has room for what a line may print, 1,332 bytes. Where some bytes are
-// lent, no line was refused before and the buffer has that room, at least one byte is used.
+// lent, no line was refused before and the buffer has that room, at least one byte is used (SessionLaws.used-some).
 pub fn absorb(st: Session, chunk: &[u8], out: &mut [u8]) -> Absorbed
     ensures { λ r. ⌜ (r ≡ absorbedOf st (now (chunk .entry)) (length (now (out .entry)))) × (r .written ≤ length (now (out .entry))) ⌝ }
-    ensures { λ r. ⌜ now (out .exit) ≡ overlay (now (out .entry)) 0 (prints (stateOf st) (takenIn (length (now (out .entry))) (stateOf st) (now (chunk .entry)))) ⌝ }
+    ensures { λ r. ⌜ now (out .exit) ≡ overlay (now (out .entry)) 0 (prints (stateOf st) (takenOf (length (now (out .entry))) (stateOf st) (now (chunk .entry)))) ⌝ }
 {
     let room = least(ROOM, out.len());
     let limit = out.len() - room;
+    // the line anew, so that the session is one value also where no byte is used
     let begun = st.line;
     let line = lines::extend(begun, &chunk[..0]);
     let held = st.held;

@@ -79,7 +79,7 @@ returns-2 c =
     let k = found .piece-end .result in
     let used = rest-used s chunk k (start .pre .0) (found .piece-end .ensures .0) some (found .piece-end .ensures .1) in
     let taken = rest-taken s chunk k (start .pre .0) (found .piece-end .ensures .0) (length (args .out .now) - args .at) (omega (arith, start .pre .2)) (found .piece-end .ensures .1) in
-    ((some, found .piece-end .ensures .1, taken), (rw (used .0, c .before .extend .ensures, start .pre .0), omega arith, rw (used .1) (omega arith), rw (used .1) (sym (overlay-none (args .out .now) (args .at)))))
+    ((some, found .piece-end .ensures .1, taken), (rw (used .0, c .before .extend .ensures), omega arith, rw (used .1) (omega arith), rw (used .1) (sym (overlay-none (args .out .now) (args .at)))))
 
 pub advance-spec : {M : Type 1} → statement M
 advance-spec =
