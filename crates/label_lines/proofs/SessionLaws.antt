@@ -243,9 +243,9 @@ module _ (s : State) where
   unfolding endPrints
   end-prints going some = rw (going, some)
 
-  pub end-quiet : (n : ℕ) → ((leb 1332 n && not (s .stopped)) && not (eqb (length (s .line)) 0)) ≡ false → cond (leb 1332 n) (endPrints s) [] ≡ []
+  pub end-quiet : (n : ℕ) → ((leb lineRoom n && not (s .stopped)) && not (eqb (length (s .line)) 0)) ≡ false → cond (leb lineRoom n) (endPrints s) [] ≡ []
   unfolding endPrints
-  end-quiet n e = go (leb 1332 n) (s .stopped) (eqb (length (s .line)) 0) e
+  end-quiet n e = go (leb lineRoom n) (s .stopped) (eqb (length (s .line)) 0) e
     where
       go : (a b c : Bool) → ((a && not b) && not c) ≡ false → cond a (cond (b || c) [] (stepOf (s .box) (s .line) .printed)) [] ≡ []
       go false b c e = refl
@@ -264,19 +264,19 @@ guards a b c d e =
 -- as the loop over a chunk has them, and back
 module _ (used len room written limit : ℕ) (stopped : Bool) where
   abbrev pub goes : Bool
-  goes = ((ltb used len && not stopped) && eqb room 1332) && leb written limit
+  goes = ((ltb used len && not stopped) && eqb room lineRoom) && leb written limit
 
-  pub goes-on : goes ≡ true → (used < len) × (stopped ≡ false) × (room ≡ 1332) × (written ≤ limit)
+  pub goes-on : goes ≡ true → (used < len) × (stopped ≡ false) × (room ≡ lineRoom) × (written ≤ limit)
   goes-on e =
-      let each = guards (ltb used len) (not stopped) (eqb room 1332) (leb written limit) e in
-      (ltb-true used len (each .0), not-true stopped (each .1), eqb-true room 1332 (each .2), leb-true written limit (each .3))
+      let each = guards (ltb used len) (not stopped) (eqb room lineRoom) (leb written limit) e in
+      (ltb-true used len (each .0), not-true stopped (each .1), eqb-true room lineRoom (each .2), leb-true written limit (each .3))
 
-  pub would-go : used < len → stopped ≡ false → room ≡ 1332 → written ≤ limit → goes ≡ true
-  would-go a b c d = rw (lt-ltb used len a, b, eq-eqb room 1332 c, le-leb written limit d)
+  pub would-go : used < len → stopped ≡ false → room ≡ lineRoom → written ≤ limit → goes ≡ true
+  would-go a b c d = rw (lt-ltb used len a, b, eq-eqb room lineRoom c, le-leb written limit d)
 
 -- where the loop ends, no byte of the rest is taken in
 module _ (s : State) (chunk : List ℕ) (used room written len : ℕ) where
-  pub rest-stays : room ≡ min 1332 len → written ≤ len → goes used (length chunk) room written (len - room) (s .stopped) ≡ false → usedOf (len - written) s (drop used chunk) ≡ 0
+  pub rest-stays : room ≡ min lineRoom len → written ≤ len → goes used (length chunk) room written (len - room) (s .stopped) ≡ false → usedOf (len - written) s (drop used chunk) ≡ 0
   unfolding usedOf
   rest-stays is within e = go (leb (length chunk) used) (s .stopped) (ltb (len - written) lineRoom) refl refl refl
     where
