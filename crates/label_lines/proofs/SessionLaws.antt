@@ -1,5 +1,5 @@
--- Runs of bytes: one behind the other, one without a line feed, one that ends with it, and one after a refusal; and a fed bar. Assumes
--- nothing.
+-- Runs of bytes: one behind the other, one without a line feed, one that ends with it, and one after a refusal; how many are taken in;
+-- and a fed bar. Assumes nothing.
 use Prim.Native.Nat.{ℕ, suc, _+_, _-_, _≤_, _<_, min}
 use mathlib.Core.Bool.{Bool, true, false, cond, not, _&&_, _||_}
 use mathlib.Core.List.{List, [], _∷_, _++_, append-assoc, append-nil}

@@ -19,6 +19,7 @@ pub record State : Type 0 where
   pub box : BarBox
   pub stopped : Bool
 
+-- what a session holds, and the session that holds it
 abbrev pub stateOf : Session → State
 stateOf s = record { line = content (s .line); box = s .held; stopped = s .stopped }
 

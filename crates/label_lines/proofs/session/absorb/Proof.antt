@@ -67,8 +67,7 @@ advance-requires c κs =
     let least = at-loop .before .before .before .before .before in
     let args = least .before .before .before .args in
     let chunk = args .chunk .now in
-    let room = least .least .result in
-    let sure = goes-on (loop .used) (length chunk) room (loop .written) (length (args .out .now) - room) (loop .session .stopped) (c .before .before .if1 .taken) in
+    let sure = goes-on (loop .used) (length chunk) (least .least .result) (loop .written) _ (loop .session .stopped) (c .before .before .if1 .taken) in
     let rest : length (take (length chunk - loop .used) (drop (loop .used) chunk)) ≡ length chunk - loop .used = rw (to-end chunk (loop .used), length-drop) in
     (sure .1, rw rest (omega (arith, sure .0)), omega (arith, inv .2, sure .2, sure .3, least .least .ensures))
 
@@ -94,8 +93,7 @@ loop-again c =
     let args = least .before .before .before .args in
     let chunk = args .chunk .now in
     let s : State = record { line = content (at-loop .before .before .extend .result); box = args .st .held; stopped = args .st .stopped } in
-    let room = least .least .result in
-    let sure = goes-on (loop .used) (length chunk) room (loop .written) (length (args .out .now) - room) (loop .session .stopped) (c .before .before .before .before .before .before .before .if1 .taken) in
+    let sure = goes-on (loop .used) (length chunk) (least .least .result) (loop .written) _ (loop .session .stopped) (c .before .before .before .before .before .before .before .if1 .taken) in
     let turn = c .before .before .before .before .advance in
     let did = rw (to-end chunk (loop .used)) at (turn .ensures) in
     let here : stateOf (loop .session) ≡ leaves s (take (loop .used) chunk) = rw (inv .3) (state-session _) in
