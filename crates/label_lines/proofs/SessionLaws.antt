@@ -1,15 +1,15 @@
--- Runs of bytes: one behind the other, one without a line feed, one that ends with it, and one after a refusal; and a fed bar. Assumes
--- nothing.
-use Prim.Native.Nat.{ℕ, zero, suc, _+_, _≤_, _<_}
+-- Runs of bytes: one behind the other, one without a line feed, one that ends with it, and one after a refusal; how many are taken in;
+-- and a fed bar. Assumes nothing.
+use Prim.Native.Nat.{ℕ, suc, _+_, _-_, _≤_, _<_, min}
 use mathlib.Core.Bool.{Bool, true, false, cond, not, _&&_, _||_}
 use mathlib.Core.List.{List, [], _∷_, _++_, append-assoc, append-nil}
 use mathlib.Core.Path.{_≡_, refl, sym, ap, _∙_}
 use native.Mathlib.Nat.{not-suc-le-zero}
 use native.Mathlib.Numerals.{add-one}
 use native.Mathlib.Omega.{arith}
-use borrow.Author.Tests.{ltb-true, leb-true, leb-false, eqb-true, lt-ltb, le-leb, eq-eqb, not-true}
+use borrow.Author.Tests.{ltb-true, ltb-false, leb-true, leb-false, eqb-true, lt-ltb, le-ltb, le-leb, eq-eqb, not-true}
 use lib.Dec.{ltb, leb, eqb}
-use lib.ListN.{length, take, drop, replicate, length-take}
+use lib.ListN.{length, take, drop, replicate, length-append, length-take, take-append-drop, drop-of-length-le}
 use lib.Seq.{take-all, take-add, length-take-le}
 use Rattle.measures.specs.declared.bars.Bar.{Bar}
 use Rattle.recognisers.specs.declared.call.Refusal.{Refusal}
@@ -19,12 +19,14 @@ use Rattle.bar_box.specs.declared.boxes.BarBox.{BarBox}
 use Rattle.bar_box.specs.declared.boxes.Outcome.{Outcome}
 use Rattle.bar_box.specs.Box.{fedOf, sheetOf}
 use Rattle.bar_box.specs.History.{pricesOf}
+use Rattle.text.specs.declared.lines.Partial.{Partial}
 use Rattle.text.specs.PriceText.{runOf}
-use Rattle.text.specs.Lines.{lineFeed, pieceEnd, keptLine}
-use Rattle.text.proofs.LineLaws.{line-kept}
+use Rattle.text.specs.Lines.{lineFeed, pieceEnd, keptLine, content, partialOf}
+use Rattle.text.proofs.LineLaws.{line-kept, kept-kept, content-partial}
 use Rattle.text.proofs.RunLaws.{both, all-pass, run-taken}
-use Rattle.label_lines.specs.Output.{rowLines, refusalLine, fedStep, stepOf}
-use Rattle.label_lines.specs.Session.{State, ended, grown, byteLeaves, bytePrints, leaves, prints, endPrints}
+use Rattle.label_lines.specs.declared.session.Session.{Session}
+use Rattle.label_lines.specs.Output.{rowLines, lineRoom, refusalLine, fedStep, stepOf}
+use Rattle.label_lines.specs.Session.{State, stateOf, sessionOf, ended, grown, byteLeaves, bytePrints, leaves, prints, usedOf, endPrints}
 
 -- ---- one behind the other
 pub leaves-append : (s : State) (xs ys : List ℕ) → leaves s (xs ++ ys) ≡ leaves (leaves s xs) ys
@@ -53,19 +55,10 @@ unfolding prints
 stopped-prints s [] e = refl
 stopped-prints s (x ∷ xs) e = rw (stopped-byte s x e .0, stopped-byte s x e .1) (stopped-prints s xs e)
 
--- ---- what is kept of a line that grows
-take-front : (n : ℕ) (a b : List ℕ) → take n (take n a ++ b) ≡ take n (a ++ b)
-take-front zero a b = refl
-take-front (suc n) [] b = refl
-take-front (suc n) (x ∷ a) b = ap (λ (l : List ℕ). x ∷ l) (take-front n a b)
-
-pub kept-kept : (a b : List ℕ) → keptLine (keptLine a ++ b) ≡ keptLine (a ++ b)
-kept-kept a b = take-front (suc longestLine) a b
-
+-- ---- bytes without a line feed
 pub kept-short : (a : List ℕ) → length (keptLine a) ≤ suc longestLine
 kept-short a = rw length-take (omega arith)
 
--- ---- bytes without a line feed
 module _ (s : State) (going : s .stopped ≡ false) where
   pub byte-grows : (b : ℕ) → eqb b lineFeed ≡ false → byteLeaves s b ≡ grown s (b ∷ [])
   unfolding byteLeaves
@@ -143,6 +136,66 @@ with-feed (b ∷ bs) h = go (eqb b lineFeed) refl (λ g. with-feed bs g) h
     go true e rest h = let same : b ≡ lineFeed = eqb-true b lineFeed e in rw same
     go false e rest h = rw (add-one (suc (pieceEnd lineFeed bs))) (ap (λ (l : List ℕ). b ∷ l) (rw add-one at (rest (omega arith))))
 
+-- ---- how many bytes are taken in
+
+-- none once a line was refused or the room is too small, and else the first
+module _ (room : ℕ) (s : State) where
+  used-none : (bytes : List ℕ) → (s .stopped || ltb room lineRoom) ≡ true → usedOf room s bytes ≡ 0
+  unfolding usedOf
+  used-none [] e = refl
+  used-none (b ∷ bytes) e = rw e
+
+  used-first : (b : ℕ) (bytes : List ℕ) → s .stopped ≡ false → lineRoom ≤ room
+      → usedOf room s (b ∷ bytes) ≡ suc (usedOf (room - length (bytePrints s b)) (byteLeaves s b) bytes)
+  unfolding usedOf
+  used-first b bytes going full = rw (going, le-ltb room lineRoom full)
+
+  -- so that a session that goes on takes some
+  pub used-some : (bytes : List ℕ) → s .stopped ≡ false → 1 ≤ length bytes → lineRoom ≤ room → 1 ≤ usedOf room s bytes
+  used-some [] going some full = absurd (not-suc-le-zero some)
+  used-some (b ∷ bytes) going some full = rw (used-first b bytes going full) (omega arith)
+
+pub used-most : (room : ℕ) (s : State) (bytes : List ℕ) → usedOf room s bytes ≤ length bytes
+unfolding usedOf
+used-most room s [] = omega arith
+used-most room s (b ∷ bytes) = go (s .stopped || ltb room lineRoom) (used-most (room - length (bytePrints s b)) (byteLeaves s b) bytes)
+  where
+    go : (t : Bool) {n : ℕ} → n ≤ length bytes → cond t 0 (suc n) ≤ suc (length bytes)
+    go true h = omega arith
+    go false h = omega arith
+
+-- bytes that are all taken in, and others behind them
+used-append : (room : ℕ) (s : State) (xs ys : List ℕ) → usedOf room s xs ≡ length xs
+    → usedOf room s (xs ++ ys) ≡ length xs + usedOf (room - length (prints s xs)) (leaves s xs) ys
+unfolding usedOf prints leaves
+used-append room s [] ys e = let all : room - 0 ≡ room = omega arith in rw all (omega arith)
+used-append room s (x ∷ xs) ys e = go (s .stopped || ltb room lineRoom) (used-append (room - length (bytePrints s x)) (byteLeaves s x) xs ys) e
+  where
+    left : ℕ
+    left = room - length (bytePrints s x) - length (prints (byteLeaves s x) xs)
+
+    less : room - length (bytePrints s x ++ prints (byteLeaves s x) xs) ≡ left
+    less = rw length-append (omega arith)
+
+    go : (t : Bool)
+        → (usedOf (room - length (bytePrints s x)) (byteLeaves s x) xs ≡ length xs
+        → usedOf (room - length (bytePrints s x)) (byteLeaves s x) (xs ++ ys) ≡ length xs + usedOf left (leaves (byteLeaves s x) xs) ys)
+        → cond t 0 (suc (usedOf (room - length (bytePrints s x)) (byteLeaves s x) xs)) ≡ suc (length xs)
+        → cond t 0 (suc (usedOf (room - length (bytePrints s x)) (byteLeaves s x) (xs ++ ys)))
+        ≡ suc (length xs) + usedOf (room - length (bytePrints s x ++ prints (byteLeaves s x) xs)) (leaves (byteLeaves s x) xs) ys
+    go true rest e = absurd (omega arith)
+    go false rest e = rw less (omega (arith, rest (omega arith)))
+
+-- bytes without a line feed neither stop nor print, so that n of those behind them are taken in too
+used-quiet : (room : ℕ) (s : State) (xs ys : List ℕ) (n : ℕ) → s .stopped ≡ false → lineRoom ≤ room → pieceEnd lineFeed xs ≡ length xs
+    → ((s' : State) → s' .stopped ≡ false → usedOf room s' ys ≡ n) → usedOf room s (xs ++ ys) ≡ length xs + n
+used-quiet room s [] ys n going full e on = omega (arith, on s going)
+used-quiet room s (x ∷ xs) ys n going full e on =
+    let pass = all-pass (λ b. not (eqb b lineFeed)) x xs e in
+    let plain = not-true (eqb x lineFeed) (pass .0) in
+    let all : room - 0 ≡ room = omega arith in
+    rw (used-first room s x (xs ++ ys) going full, byte-quiet s going x plain, byte-grows s going x plain, all) (omega (arith, used-quiet room (grown s (x ∷ [])) xs ys n going full (pass .1) on))
+
 -- ---- a fed bar, by the verdict of its feed
 module _ (b : BarBox) (bar : Bar) (o : Outcome) (e : o ≡ fedOf b (pricesOf (bar ∷ [])) rowBytes) where
   pub fed-refused : (r : Refusal) → o .verdict ≡ Denied r → fedStep b bar ≡ record { printed = refusalLine (b .count + 1) r; after = b; stops = true }
@@ -159,14 +212,27 @@ module _ (s : State) (chunk : List ℕ) (k : ℕ) (going : s .stopped ≡ false)
   alone : pieceEnd lineFeed (take k chunk) ≡ length (take k chunk)
   alone = rw is (run-taken (λ b. not (eqb b lineFeed)) chunk)
 
+  with-line : k < length chunk → take (k + 1) chunk ≡ take k chunk ++ (lineFeed ∷ [])
+  with-line inside = rw is (with-feed chunk (rw is at inside))
+
   pub line-used : k < length chunk
       → (leaves s (take (k + 1) chunk) ≡ ended (grown s (take k chunk))) × (prints s (take (k + 1) chunk) ≡ stepOf (s .box) (keptLine (s .line ++ take k chunk)) .printed)
-  line-used inside =
-      let cut : take (k + 1) chunk ≡ take k chunk ++ (lineFeed ∷ []) = rw is (with-feed chunk (rw is at inside)) in
-      (rw cut (line-leaves s going (take k chunk) alone), rw cut (line-prints s going (take k chunk) alone))
+  line-used inside = (rw (with-line inside) (line-leaves s going (take k chunk) alone), rw (with-line inside) (line-prints s going (take k chunk) alone))
 
   pub rest-used : 1 ≤ k → k ≤ length chunk → (leaves s (take k chunk) ≡ grown s (take k chunk)) × (prints s (take k chunk) ≡ [])
   rest-used some inside = (quiet-some s (take k chunk) going (rw (length-take-le k chunk inside) some) alone, quiet-prints s (take k chunk) going alone)
+
+  -- all of them are taken in
+  module _ (room : ℕ) (full : lineRoom ≤ room) where
+    pub line-taken : k < length chunk → usedOf room s (take (k + 1) chunk) ≡ k + 1
+    unfolding usedOf
+    line-taken inside =
+        let feed : (s' : State) → s' .stopped ≡ false → usedOf room s' (lineFeed ∷ []) ≡ 1 = λ s' g. used-first room s' lineFeed [] g full in
+        rw (with-line inside) (omega (arith, used-quiet room s (take k chunk) (lineFeed ∷ []) 1 going full alone feed, length-take-le k chunk (omega arith)))
+
+    pub rest-taken : k ≤ length chunk → usedOf room s (take k chunk) ≡ k
+    unfolding usedOf
+    rest-taken inside = omega (arith, rw append-nil at (used-quiet room s (take k chunk) [] 0 going full alone (λ s' g. refl)), length-take-le k chunk inside)
 
 -- ---- the input's end
 true-false : true ≡ false → ⊥
@@ -177,9 +243,9 @@ module _ (s : State) where
   unfolding endPrints
   end-prints going some = rw (going, some)
 
-  pub end-quiet : (n : ℕ) → ((leb 1332 n && not (s .stopped)) && not (eqb (length (s .line)) 0)) ≡ false → cond (leb 1332 n) (endPrints s) [] ≡ []
+  pub end-quiet : (n : ℕ) → ((leb lineRoom n && not (s .stopped)) && not (eqb (length (s .line)) 0)) ≡ false → cond (leb lineRoom n) (endPrints s) [] ≡ []
   unfolding endPrints
-  end-quiet n e = go (leb 1332 n) (s .stopped) (eqb (length (s .line)) 0) e
+  end-quiet n e = go (leb lineRoom n) (s .stopped) (eqb (length (s .line)) 0) e
     where
       go : (a b c : Bool) → ((a && not b) && not c) ≡ false → cond a (cond (b || c) [] (stepOf (s .box) (s .line) .printed)) [] ≡ []
       go false b c e = refl
@@ -198,24 +264,29 @@ guards a b c d e =
 -- as the loop over a chunk has them, and back
 module _ (used len room written limit : ℕ) (stopped : Bool) where
   abbrev pub goes : Bool
-  goes = ((ltb used len && not stopped) && eqb room 1332) && leb written limit
+  goes = ((ltb used len && not stopped) && eqb room lineRoom) && leb written limit
 
-  pub goes-on : goes ≡ true → (used < len) × (stopped ≡ false) × (room ≡ 1332) × (written ≤ limit)
+  pub goes-on : goes ≡ true → (used < len) × (stopped ≡ false) × (room ≡ lineRoom) × (written ≤ limit)
   goes-on e =
-      let each = guards (ltb used len) (not stopped) (eqb room 1332) (leb written limit) e in
-      (ltb-true used len (each .0), not-true stopped (each .1), eqb-true room 1332 (each .2), leb-true written limit (each .3))
+      let each = guards (ltb used len) (not stopped) (eqb room lineRoom) (leb written limit) e in
+      (ltb-true used len (each .0), not-true stopped (each .1), eqb-true room lineRoom (each .2), leb-true written limit (each .3))
 
-  pub would-go : used < len → stopped ≡ false → room ≡ 1332 → written ≤ limit → goes ≡ true
-  would-go a b c d = rw (lt-ltb used len a, b, eq-eqb room 1332 c, le-leb written limit d)
+  pub would-go : used < len → stopped ≡ false → room ≡ lineRoom → written ≤ limit → goes ≡ true
+  would-go a b c d = rw (lt-ltb used len a, b, eq-eqb room lineRoom c, le-leb written limit d)
 
-  pub went : goes ≡ false → (used ≡ 0 → (stopped ≡ false) × (written ≡ 0)) → 1 ≤ len → room ≡ 1332 → 1 ≤ used
-  went e first some full = case (leb 1 used) refl
+-- where the loop ends, no byte of the rest is taken in
+module _ (s : State) (chunk : List ℕ) (used room written len : ℕ) where
+  pub rest-stays : room ≡ min lineRoom len → written ≤ len → goes used (length chunk) room written (len - room) (s .stopped) ≡ false → usedOf (len - written) s (drop used chunk) ≡ 0
+  unfolding usedOf
+  rest-stays is within e = go (leb (length chunk) used) (s .stopped) (ltb (len - written) lineRoom) refl refl refl
     where
-      case : (t : Bool) → leb 1 used ≡ t → 1 ≤ used
-      case true y = leb-true 1 used y
-      case false y =
-          let none : used ≡ 0 = omega (arith, leb-false 1 used y) in
-          absurd (true-false (sym (would-go (omega (arith, none)) (first none .0) full (omega (arith, first none .1))) ∙ e))
+      go : (a b c : Bool) → leb (length chunk) used ≡ a → s .stopped ≡ b → ltb (len - written) lineRoom ≡ c → usedOf (len - written) s (drop used chunk) ≡ 0
+      go true b c x y z = rw (drop-of-length-le chunk (leb-true (length chunk) used x))
+      go false true c x y z = used-none (len - written) s (drop used chunk) (rw y)
+      go false false true x y z = used-none (len - written) s (drop used chunk) (rw (y, z))
+      go false false false x y z =
+          let enough : lineRoom ≤ len - written = ltb-false (len - written) lineRoom z in
+          absurd (true-false (sym (would-go used (length chunk) room written (len - room) (s .stopped) (leb-false (length chunk) used x) y (omega arith) (omega arith)) ∙ e))
 
 -- ---- n bytes of a chunk more, after u of them
 module _ (s s' : State) (chunk : List ℕ) (u n : ℕ) (here : s' ≡ leaves s (take u chunk)) where
@@ -224,3 +295,27 @@ module _ (s s' : State) (chunk : List ℕ) (u n : ℕ) (here : s' ≡ leaves s (
 
   pub turn-prints : prints s (take (u + n) chunk) ≡ prints s (take u chunk) ++ prints s' (take n (drop u chunk))
   turn-prints = rw (take-add u n chunk, prints-append s (take u chunk) (take n (drop u chunk)), here)
+
+  pub turn-used : (len : ℕ) → u ≤ length chunk → usedOf len s (take u chunk) ≡ u → usedOf (len - length (prints s (take u chunk))) s' (take n (drop u chunk)) ≡ n
+      → usedOf len s (take (u + n) chunk) ≡ u + n
+  turn-used len inside e more =
+      let size = length-take-le u chunk inside in
+      rw (take-add u n chunk, used-append len s (take u chunk) (take n (drop u chunk)) (e ∙ sym size), ← here, more, size)
+
+-- and none more
+module _ (s : State) (chunk : List ℕ) (u len : ℕ) where
+  pub used-all : u ≤ length chunk → usedOf len s (take u chunk) ≡ u → usedOf (len - length (prints s (take u chunk))) (leaves s (take u chunk)) (drop u chunk) ≡ 0
+      → usedOf len s chunk ≡ u
+  used-all inside e none =
+      let size = length-take-le u chunk inside in
+      let both-parts = used-append len s (take u chunk) (drop u chunk) (e ∙ sym size) in
+      omega (arith, rw take-append-drop at both-parts, none, size)
+
+-- ---- a session is what its state says
+pub state-session : (s : State) → stateOf (sessionOf s) ≡ s
+state-session s = rw (content-partial (s .line))
+
+pub session-state : (st : Session) (l : List ℕ) → st .line ≡ partialOf l → st ≡ sessionOf (stateOf st)
+session-state st l e =
+    let own : st .line ≡ partialOf (content (st .line)) = rw (e, content-partial l) in
+    ap (λ (p : Partial). record { line = p; held = st .held; stopped = st .stopped }) own

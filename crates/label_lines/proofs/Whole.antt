@@ -2,19 +2,20 @@
 use Prim.Native.Nat.{ℕ, suc, _≤_}
 use mathlib.Core.Bool.{Bool, true, false, cond}
 use mathlib.Core.List.{List, [], _∷_, _++_, append-assoc, append-nil}
+use mathlib.Core.Logic.{_⊎_, ⊎-elim}
 use mathlib.Core.Path.{_≡_, refl, sym, ap, _∙_}
 use native.Mathlib.Omega.{arith}
 use borrow.Author.Tests.{eqb-true, ne-eqb}
 use lib.Dec.{eqb}
-use lib.ListN.{length, take}
+use lib.ListN.{length, take, drop, take-append-drop}
 use Rattle.recognisers.specs.Threshold.{standardSet}
 use Rattle.bar_box.specs.declared.boxes.BarBox.{BarBox}
 use Rattle.bar_box.specs.Box.{freshBox}
 use Rattle.text.specs.Lines.{lineFeed, linesFrom, keptLine}
-use Rattle.text.proofs.LineLaws.{lines-end, lines-last, lines-feed, lines-byte}
+use Rattle.text.proofs.LineLaws.{lines-end, lines-last, lines-feed, lines-byte, kept-kept}
 use Rattle.label_lines.specs.Output.{Step, stepOf, printedOf, outputOf}
-use Rattle.label_lines.specs.Session.{State, freshState, ended, grown, byteLeaves, bytePrints, leaves, prints, endPrints, readsPrint, joined}
-use Rattle.label_lines.proofs.SessionLaws.{step-kept, leaves-append, prints-append, stopped-leaves, stopped-prints, kept-kept, byte-grows, byte-ends, byte-quiet, feed-prints}
+use Rattle.label_lines.specs.Session.{State, freshState, ended, grown, byteLeaves, bytePrints, leaves, prints, usedOf, takenOf, endPrints, readsPrint, partsOf, joined}
+use Rattle.label_lines.proofs.SessionLaws.{step-kept, leaves-append, prints-append, stopped-leaves, stopped-prints, byte-grows, byte-ends, byte-quiet, feed-prints}
 
 -- what bytes print, and then the input's end
 abbrev allPrint : State → List ℕ → List ℕ
@@ -78,3 +79,26 @@ reads-join s (bytes ∷ reads) = rw (prints-append s bytes (joined reads), leave
 -- the theorem of the program: however its input is cut into reads, it prints what the input's lines print
 pub reads-print : (reads : List (List ℕ)) → readsPrint freshState reads ≡ outputOf (joined reads)
 reads-print reads = reads-join freshState reads ∙ whole (joined reads)
+
+-- ---- an input that is taken in part by part, as `absorb` does where each call is handed what the calls before it left
+
+-- the parts are the input's, up to some place
+parts-front : (s : State) (rooms input : List ℕ) → (rest : List ℕ) × (joined (partsOf s rooms input) ++ rest ≡ input)
+unfolding joined partsOf
+parts-front s [] input = (input, refl)
+parts-front s (room ∷ rooms) input =
+    let more = parts-front (leaves s (takenOf room s input)) rooms (drop (usedOf room s input) input) in
+    (more .0, rw (append-assoc, more .1) (take-append-drop (usedOf room s input) input))
+
+-- nothing follows a refusal
+stopped-more : (s : State) (xs rest : List ℕ) → leaves s xs .stopped ≡ true → allPrint s (xs ++ rest) ≡ allPrint s xs
+stopped-more s xs rest e = rw (prints-append s xs rest, leaves-append s xs rest, stopped-prints (leaves s xs) rest e, stopped-leaves (leaves s xs) rest e, append-nil)
+
+-- the same as in one, once a line was refused or all is used
+pub parts-print : (rooms input : List ℕ) → let parts = partsOf freshState rooms input in
+    (leaves freshState (joined parts) .stopped ≡ true) ⊎ (joined parts ≡ input)
+    → readsPrint freshState parts ≡ outputOf input
+parts-print rooms input =
+    let parts = partsOf freshState rooms input in
+    let front = parts-front freshState rooms input in
+    ⊎-elim (λ stopped. reads-join freshState parts ∙ sym (stopped-more freshState (joined parts) (front .0) stopped) ∙ rw (front .1) (whole input)) (λ all. reads-print parts ∙ ap outputOf all)

@@ -1,5 +1,5 @@
 -- "The labels program": what it prints for an input.
-use Prim.Native.Nat.{ℕ, zero, suc, _+_, _/_}
+use Prim.Native.Nat.{ℕ, zero, suc, _+_, _*_, _/_}
 use mathlib.Core.Bool.{Bool, true, false, cond}
 use mathlib.Core.List.{List, [], _∷_, _++_}
 use lib.Dec.{ltb, eqb}
@@ -9,7 +9,7 @@ use Rattle.measures.specs.declared.bars.Bar.{Bar}
 use Rattle.recognisers.specs.declared.call.Refusal.{Refusal}
 use Rattle.recognisers.specs.declared.call.Verdict.{Verdict}
 use Rattle.recognisers.specs.declared.call.Verdict.the-variants.{Accepted, Denied}
-use Rattle.recognisers.specs.Number.{rowBytes}
+use Rattle.recognisers.specs.Number.{recognisers, rowBytes}
 use Rattle.recognisers.specs.Refusal.{refusalNumber}
 use Rattle.recognisers.specs.Threshold.{standardSet}
 use Rattle.bar_box.specs.declared.boxes.BarBox.{BarBox}
@@ -46,6 +46,10 @@ unfoldable pub rowLines : ℕ → ℕ → List ℕ → List ℕ
 rowLines ordinal k [] = []
 rowLines ordinal k (v1 ∷ []) = []
 rowLines ordinal k (v1 ∷ v2 ∷ codes) = cond (eqb v1 0) [] (rowLine ordinal k v1 v2) ++ rowLines ordinal (k + 1) codes
+
+-- the room for what a line may print: a row for each recogniser, of at most 74 bytes
+abbrev pub lineRoom : ℕ
+lineRoom = recognisers * 74
 
 -- the bytes of the word refused
 abbrev pub refusedWord : List ℕ

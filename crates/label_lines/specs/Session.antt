@@ -1,16 +1,17 @@
 -- The labels program, byte by byte, as the code has it: what it holds between two reads, and what it prints for the bytes of one.
 -- That this is what the input's lines print is proved in proofs/Whole.antt.
-use Prim.Native.Nat.{ℕ}
+use Prim.Native.Nat.{ℕ, suc, _-_}
 use mathlib.Core.Bool.{Bool, false, cond, _||_}
 use mathlib.Core.List.{List, [], _∷_, _++_}
-use lib.Dec.{eqb}
-use lib.ListN.{length}
+use lib.Dec.{ltb, eqb}
+use lib.ListN.{length, take, drop}
 use Rattle.recognisers.specs.Threshold.{standardSet}
 use Rattle.bar_box.specs.declared.boxes.BarBox.{BarBox}
 use Rattle.bar_box.specs.Box.{freshBox}
-use Rattle.text.specs.Lines.{lineFeed, keptLine, content}
+use Rattle.text.specs.Lines.{lineFeed, keptLine, content, partialOf}
 use Rattle.label_lines.specs.declared.session.Session.{Session}
-use Rattle.label_lines.specs.Output.{stepOf}
+use Rattle.label_lines.specs.declared.session.Absorbed.{Absorbed}
+use Rattle.label_lines.specs.Output.{lineRoom, stepOf}
 
 -- the line that has begun, of which the first bytes are kept, the box, and whether a line was refused
 pub record State : Type 0 where
@@ -18,8 +19,12 @@ pub record State : Type 0 where
   pub box : BarBox
   pub stopped : Bool
 
+-- what a session holds, and the session that holds it
 abbrev pub stateOf : Session → State
 stateOf s = record { line = content (s .line); box = s .held; stopped = s .stopped }
+
+abbrev pub sessionOf : State → Session
+sessionOf s = record { line = partialOf (s .line); held = s .box; stopped = s .stopped }
 
 abbrev pub freshState : State
 freshState = record { line = []; box = freshBox standardSet; stopped = false }
@@ -48,6 +53,24 @@ unfoldable pub prints : State → List ℕ → List ℕ
 prints s [] = []
 prints s (b ∷ bytes) = bytePrints s b ++ prints (byteLeaves s b) bytes
 
+-- how many of the bytes are taken in: each, as long as no line was refused and the room left is enough for what a line may print
+unfoldable pub usedOf : ℕ → State → List ℕ → ℕ
+usedOf room s [] = 0
+usedOf room s (b ∷ bytes) =
+    cond (s .stopped || ltb room lineRoom) 0 (suc (usedOf (room - length (bytePrints s b)) (byteLeaves s b) bytes))
+
+abbrev pub takenOf : ℕ → State → List ℕ → List ℕ
+takenOf room s bytes = take (usedOf room s bytes) bytes
+
+-- a session after the bytes that are taken in, into a buffer of this length
+abbrev pub absorbedOf : Session → List ℕ → ℕ → Absorbed
+absorbedOf st bytes room =
+    record {
+      session = sessionOf (leaves (stateOf st) (takenOf room (stateOf st) bytes));
+      used = usedOf room (stateOf st) bytes;
+      written = length (prints (stateOf st) (takenOf room (stateOf st) bytes));
+    }
+
 -- what the input's end prints: a line that has begun ends there
 unfoldable pub endPrints : State → List ℕ
 endPrints s = cond (s .stopped || eqb (length (s .line)) 0) [] (stepOf (s .box) (s .line) .printed)
@@ -56,6 +79,12 @@ endPrints s = cond (s .stopped || eqb (length (s .line)) 0) [] (stepOf (s .box) 
 unfoldable pub readsPrint : State → List (List ℕ) → List ℕ
 readsPrint s [] = endPrints s
 readsPrint s (bytes ∷ reads) = prints s bytes ++ readsPrint (leaves s bytes) reads
+
+-- the parts of an input that are taken in one after the other, into buffers of these lengths
+unfoldable pub partsOf : State → List ℕ → List ℕ → List (List ℕ)
+partsOf s [] input = []
+partsOf s (room ∷ rooms) input =
+    takenOf room s input ∷ partsOf (leaves s (takenOf room s input)) rooms (drop (usedOf room s input) input)
 
 -- the bytes of several reads as one input
 unfoldable pub joined : List (List ℕ) → List ℕ

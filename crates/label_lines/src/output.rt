@@ -7,7 +7,7 @@ ghost use lib.Dec.{eqb};
 ghost use lib.ListN.{length};
 ghost use Rattle.bar_box.specs.Sheet.{overlay};
 ghost use Rattle.text.specs.LabelText.{bytesOf};
-ghost use Rattle.label_lines.specs.Output.{numeral, field, rowLine, rowLines, refusalLine};
+ghost use Rattle.label_lines.specs.Output.{numeral, field, rowLine, rowLines, lineRoom, refusalLine};
 use recognisers::Refusal;
 use recognisers::call::refusal_number;
 use text::label_text;
@@ -72,8 +72,8 @@ fn write_pair(ordinal: u64, k: u64, v1: u8, v2: u8, out: &mut [u8], at: usize) -
 
 // The lines of a bar whose row the sheet has: at most eighteen times 74 bytes.
 pub(crate) fn write_rows(ordinal: u64, sheet: &[u8], out: &mut [u8], at: usize) -> usize
-    requires { ⌜ (length (now sheet) ≡ 36) × (at + 1332 ≤ length (now out)) ⌝ }
-    ensures { λ r. ⌜ (r ≤ at + 1332) × (r ≡ at + length (rowLines ordinal 0 (now (sheet .entry)))) × (now (out .exit) ≡ overlay (now (out .entry)) at (rowLines ordinal 0 (now (sheet .entry)))) ⌝ }
+    requires { ⌜ (length (now sheet) ≡ 36) × (at + lineRoom ≤ length (now out)) ⌝ }
+    ensures { λ r. ⌜ (r ≤ at + lineRoom) × (r ≡ at + length (rowLines ordinal 0 (now (sheet .entry)))) × (now (out .exit) ≡ overlay (now (out .entry)) at (rowLines ordinal 0 (now (sheet .entry)))) ⌝ }
 {
     let mut k = 0usize;
     let mut place = at;

@@ -3,12 +3,12 @@ ghost use mathlib.Core.Path.{_≡_};
 ghost use mathlib.Core.Bool.{true, false, cond};
 ghost use mathlib.Core.List.{[]};
 ghost use lib.Dec.{leb};
-ghost use Prim.Native.Nat.{_+_, _≤_};
+ghost use Prim.Native.Nat.{_+_, _-_, _≤_};
 ghost use lib.ListN.{length, take};
 ghost use Rattle.bar_box.specs.Sheet.{overlay};
 ghost use Rattle.text.specs.Lines.{content};
-ghost use Rattle.label_lines.specs.Output.{refusalLine, fedStep, stepOf};
-ghost use Rattle.label_lines.specs.Session.{stateOf, freshState, leaves, prints, endPrints};
+ghost use Rattle.label_lines.specs.Output.{lineRoom, refusalLine, fedStep, stepOf};
+ghost use Rattle.label_lines.specs.Session.{stateOf, sessionOf, freshState, leaves, prints, usedOf, takenOf, absorbedOf, endPrints};
 use crate::output;
 use bar_box::BarBox;
 use measures::Bar;
@@ -47,7 +47,7 @@ pub struct Absorbed {
 
 // Before the first byte.
 pub fn begin() -> Session
-    ensures { λ r. ⌜ stateOf r ≡ freshState ⌝ }
+    ensures { λ r. ⌜ r ≡ sessionOf freshState ⌝ }
 {
     let standard = Thresholds::standard();
     let made = bar_box::make(standard);
@@ -61,8 +61,8 @@ pub fn begin() -> Session
 }
 
 fn refuse(held: BarBox, why: Refusal, out: &mut [u8], at: usize) -> Stepped
-    requires { ⌜ at + 1332 ≤ length (now out) ⌝ }
-    ensures { λ r. ⌜ (r .held ≡ held) × (r .stops ≡ true) × (r .at ≤ at + 1332) × (r .at ≡ at + length (refusalLine (held .count + 1) why)) × (now (out .exit) ≡ overlay (now (out .entry)) at (refusalLine (held .count + 1) why)) ⌝ }
+    requires { ⌜ at + lineRoom ≤ length (now out) ⌝ }
+    ensures { λ r. ⌜ (r .held ≡ held) × (r .stops ≡ true) × (r .at ≤ at + lineRoom) × (r .at ≡ at + length (refusalLine (held .count + 1) why)) × (now (out .exit) ≡ overlay (now (out .entry)) at (refusalLine (held .count + 1) why)) ⌝ }
 {
     let ordinal = held.count as u64 + 1;
     let end = output::write_refusal(ordinal, why, out, at);
@@ -75,8 +75,8 @@ fn refuse(held: BarBox, why: Refusal, out: &mut [u8], at: usize) -> Stepped
 
 // Feeds one bar and prints its rows.
 fn feed_bar(held: BarBox, bar: Bar, out: &mut [u8], at: usize) -> Stepped
-    requires { ⌜ at + 1332 ≤ length (now out) ⌝ }
-    ensures { λ r. ⌜ (r .held ≡ fedStep held bar .after) × (r .stops ≡ fedStep held bar .stops) × (r .at ≤ at + 1332) × (r .at ≡ at + length (fedStep held bar .printed)) × (now (out .exit) ≡ overlay (now (out .entry)) at (fedStep held bar .printed)) ⌝ }
+    requires { ⌜ at + lineRoom ≤ length (now out) ⌝ }
+    ensures { λ r. ⌜ (r .held ≡ fedStep held bar .after) × (r .stops ≡ fedStep held bar .stops) × (r .at ≤ at + lineRoom) × (r .at ≡ at + length (fedStep held bar .printed)) × (now (out .exit) ≡ overlay (now (out .entry)) at (fedStep held bar .printed)) ⌝ }
 {
     let prices = [bar.open, bar.close, bar.high, bar.low];
     let mut sheet = [0u8; 36];
@@ -99,8 +99,8 @@ fn feed_bar(held: BarBox, bar: Bar, out: &mut [u8], at: usize) -> Stepped
 
 // The end of a line.
 fn step(held: BarBox, line: Partial, out: &mut [u8], at: usize) -> Stepped
-    requires { ⌜ at + 1332 ≤ length (now out) ⌝ }
-    ensures { λ r. ⌜ (r .held ≡ stepOf held (content line) .after) × (r .stops ≡ stepOf held (content line) .stops) × (r .at ≤ at + 1332) × (r .at ≡ at + length (stepOf held (content line) .printed)) × (now (out .exit) ≡ overlay (now (out .entry)) at (stepOf held (content line) .printed)) ⌝ }
+    requires { ⌜ at + lineRoom ≤ length (now out) ⌝ }
+    ensures { λ r. ⌜ (r .held ≡ stepOf held (content line) .after) × (r .stops ≡ stepOf held (content line) .stops) × (r .at ≤ at + lineRoom) × (r .at ≡ at + length (stepOf held (content line) .printed)) × (now (out .exit) ≡ overlay (now (out .entry)) at (stepOf held (content line) .printed)) ⌝ }
 {
     match lines::read(line) {
         Line::Prices(bar) => feed_bar(held, bar, out, at),
@@ -111,8 +111,9 @@ fn step(held: BarBox, line: Partial, out: &mut [u8], at: usize) -> Stepped
 
 // Bytes up to the end of a line, or all of them if none ends there.
 fn advance(st: Session, chunk: &[u8], out: &mut [u8], at: usize) -> Absorbed
-    requires { ⌜ (st .stopped ≡ false) × (1 ≤ length (now chunk)) × (at + 1332 ≤ length (now out)) ⌝ }
-    ensures { λ r. ⌜ (1 ≤ r .used) × (r .used ≤ length (now (chunk .entry))) × (stateOf (r .session) ≡ leaves (stateOf st) (take (r .used) (now (chunk .entry)))) × (r .written ≤ at + 1332) × (r .written ≡ at + length (prints (stateOf st) (take (r .used) (now (chunk .entry))))) × (now (out .exit) ≡ overlay (now (out .entry)) at (prints (stateOf st) (take (r .used) (now (chunk .entry))))) ⌝ }
+    requires { ⌜ (st .stopped ≡ false) × (1 ≤ length (now chunk)) × (at + lineRoom ≤ length (now out)) ⌝ }
+    ensures { λ r. ⌜ (1 ≤ r .used) × (r .used ≤ length (now (chunk .entry))) × (usedOf (length (now (out .entry)) - at) (stateOf st) (take (r .used) (now (chunk .entry))) ≡ r .used) ⌝ }
+    ensures { λ r. ⌜ (r .session ≡ sessionOf (leaves (stateOf st) (take (r .used) (now (chunk .entry))))) × (r .written ≤ at + lineRoom) × (r .written ≡ at + length (prints (stateOf st) (take (r .used) (now (chunk .entry))))) × (now (out .exit) ≡ overlay (now (out .entry)) at (prints (stateOf st) (take (r .used) (now (chunk .entry))))) ⌝ }
 {
     let k = lines::piece_end(LINE_FEED, chunk);
     let begun = st.line;
@@ -135,7 +136,7 @@ fn advance(st: Session, chunk: &[u8], out: &mut [u8], at: usize) -> Absorbed
             session: Session {
                 line,
                 held,
-                stopped: false,
+                stopped: st.stopped,
             },
             used: k,
             written: at,
@@ -144,15 +145,22 @@ fn advance(st: Session, chunk: &[u8], out: &mut [u8], at: usize) -> Absorbed
 }
 
 // Bytes of input, as long as no line is refused and the buffer has room for what a line may print, 1,332 bytes. Where some bytes are
-// lent, no line was refused before and the buffer has that room, at least one byte is used.
+// lent, no line was refused before and the buffer has that room, at least one byte is used (SessionLaws.used-some).
 pub fn absorb(st: Session, chunk: &[u8], out: &mut [u8]) -> Absorbed
-    ensures { λ r. ⌜ (r .used ≤ length (now (chunk .entry))) × (st .stopped ≡ false → 1 ≤ length (now (chunk .entry)) → 1332 ≤ length (now (out .entry)) → 1 ≤ r .used) ⌝ }
-    ensures { λ r. ⌜ (r .written ≤ length (now (out .entry))) × (r .written ≡ length (prints (stateOf st) (take (r .used) (now (chunk .entry))))) ⌝ }
-    ensures { λ r. ⌜ (stateOf (r .session) ≡ leaves (stateOf st) (take (r .used) (now (chunk .entry)))) × (now (out .exit) ≡ overlay (now (out .entry)) 0 (prints (stateOf st) (take (r .used) (now (chunk .entry))))) ⌝ }
+    ensures { λ r. ⌜ (r ≡ absorbedOf st (now (chunk .entry)) (length (now (out .entry)))) × (r .written ≤ length (now (out .entry))) ⌝ }
+    ensures { λ r. ⌜ now (out .exit) ≡ overlay (now (out .entry)) 0 (prints (stateOf st) (takenOf (length (now (out .entry))) (stateOf st) (now (chunk .entry)))) ⌝ }
 {
     let room = least(ROOM, out.len());
     let limit = out.len() - room;
-    let mut session = st;
+    // the line anew, so that the session is one value also where no byte is used
+    let begun = st.line;
+    let line = lines::extend(begun, &chunk[..0]);
+    let held = st.held;
+    let mut session = Session {
+        line,
+        held,
+        stopped: st.stopped,
+    };
     let mut used = 0usize;
     let mut written = 0usize;
     while (used < chunk.len()) & !session.stopped & (room == ROOM) & (written <= limit) {
@@ -170,8 +178,8 @@ pub fn absorb(st: Session, chunk: &[u8], out: &mut [u8]) -> Absorbed
 
 // The end of the input, where a line that has begun ends. A buffer without the room that a line may need stays as it is.
 pub fn end(st: Session, out: &mut [u8]) -> usize
-    ensures { λ r. ⌜ (r ≤ length (now (out .entry))) × (r ≡ length (cond (leb 1332 (length (now (out .entry)))) (endPrints (stateOf st)) [])) ⌝ }
-    ensures { λ r. ⌜ now (out .exit) ≡ overlay (now (out .entry)) 0 (cond (leb 1332 (length (now (out .entry)))) (endPrints (stateOf st)) []) ⌝ }
+    ensures { λ r. ⌜ (r ≤ length (now (out .entry))) × (r ≡ length (cond (leb lineRoom (length (now (out .entry)))) (endPrints (stateOf st)) [])) ⌝ }
+    ensures { λ r. ⌜ now (out .exit) ≡ overlay (now (out .entry)) 0 (cond (leb lineRoom (length (now (out .entry)))) (endPrints (stateOf st)) []) ⌝ }
 {
     let line = st.line;
     let held = st.held;

@@ -1,20 +1,21 @@
 -- Pieces and lines, one byte or one piece at a time; the bytes of a line that are enough to tell; and refusal 8. Assumes nothing.
-use Prim.Native.Nat.{ℕ, suc, _+_, _-_, _≤_, _<_}
+use Prim.Native.Nat.{ℕ, zero, suc, _+_, _-_, _≤_, _<_}
 use mathlib.Core.Bool.{Bool, true, false, cond, not}
 use mathlib.Core.List.{List, [], _∷_, _++_, append-assoc, append-nil}
-use mathlib.Core.Path.{_≡_, refl, _∙_}
+use mathlib.Core.Path.{_≡_, refl, ap, _∙_}
 use native.Mathlib.Numerals.{add-one}
 use native.Mathlib.Omega.{arith}
 use borrow.Author.Tests.{leb-true, leb-false, le-ltb, lt-ltb, lt-leb, ne-eqb}
 use lib.Dec.{eqb, leb}
-use lib.ListN.{length, take, drop, length-take}
-use lib.Seq.{take-all}
+use lib.ListN.{length, take, drop, replicate, length-take}
+use lib.Seq.{take-all, take-append-seam}
 use Rattle.recognisers.specs.Number.{longestLine}
 use Rattle.recognisers.specs.Refusal.{badLine, firstTrue}
+use Rattle.text.specs.declared.lines.Partial.{Partial}
 use Rattle.text.specs.declared.line_text.Line.{Line}
 use Rattle.text.specs.declared.line_text.Line.the-variants.{Prices, BadShape, BadPrice}
 use Rattle.text.specs.PriceText.{runOf}
-use Rattle.text.specs.Lines.{lineFeed, piecesFrom, piecesOf, endedLines, linesFrom, linesOf, pieceEnd, keptLine}
+use Rattle.text.specs.Lines.{lineFeed, piecesFrom, piecesOf, endedLines, linesFrom, linesOf, pieceEnd, keptLine, content, partialOf}
 use Rattle.text.specs.LineText.{comma, fieldsLine, lineOf, verdictOf, isPrices}
 use Rattle.text.proofs.PartLaws.{to-end}
 
@@ -116,6 +117,28 @@ line-kept s = go (leb (length s) longestLine) refl
         let long : longestLine < length s = leb-false (length s) longestLine e in
         let kept : longestLine < length (keptLine s) = simp length-take (omega arith) in
         rw (lt-leb _ _ long, lt-leb _ _ kept)
+
+-- what is kept of a line that grows
+take-front : (n : ℕ) (a b : List ℕ) → take n (take n a ++ b) ≡ take n (a ++ b)
+take-front zero a b = refl
+take-front (suc n) [] b = refl
+take-front (suc n) (x ∷ a) b = ap (λ (l : List ℕ). x ∷ l) (take-front n a b)
+
+pub kept-kept : (a b : List ℕ) → keptLine (keptLine a ++ b) ≡ keptLine (a ++ b)
+kept-kept a b = take-front (suc longestLine) a b
+
+-- the line of some bytes, its content, and what it is field by field
+pub content-partial : (l : List ℕ) → content (partialOf l) ≡ l
+unfolding partialOf
+content-partial l = take-append-seam l (replicate (suc longestLine - length l) 0)
+
+pub partial-is : (l bytes : List ℕ) (n : ℕ) → length l ≡ n → bytes ≡ l ++ replicate (suc longestLine - n) 0 → record { bytes = bytes; len = n } ≡ partialOf l
+unfolding partialOf
+partial-is l bytes n e is = rw (is, e)
+
+pub partial-fields : (p : Partial) (l : List ℕ) → p ≡ partialOf l → (p .bytes ≡ l ++ replicate (suc longestLine - length l) 0) × (p .len ≡ length l)
+unfolding partialOf
+partial-fields p l e = (ap (λ (q : Partial). q .bytes) e, ap (λ (q : Partial). q .len) e)
 
 -- a line that is denied is refusal 8
 pub line-refused : (s : List ℕ) → verdictOf (lineOf s) ≡ firstTrue (badLine (length s) (isPrices (fieldsLine (piecesOf comma s))) ∷ [])

@@ -1,10 +1,10 @@
 -- "The other ways in", text: a line ends before a line feed or at the input's end; an empty line is a line, but after a line feed that ends
 -- the input no further line begins.
-use Prim.Native.Nat.{ℕ, suc}
+use Prim.Native.Nat.{ℕ, suc, _-_}
 use mathlib.Core.Bool.{Bool, cond, not}
 use mathlib.Core.List.{List, [], _∷_, _++_}
 use lib.Dec.{eqb}
-use lib.ListN.{length, take}
+use lib.ListN.{length, take, replicate}
 use Rattle.recognisers.specs.Number.{longestLine}
 use Rattle.text.specs.declared.lines.Partial.{Partial}
 use Rattle.text.specs.PriceText.{runOf}
@@ -47,3 +47,7 @@ keptLine s = take (suc longestLine) s
 
 abbrev pub content : Partial → List ℕ
 content p = take (p .len) (p .bytes)
+
+-- the line that has these bytes, and zeros behind them
+unfoldable pub partialOf : List ℕ → Partial
+partialOf l = record { bytes = l ++ replicate (suc longestLine - length l) 0; len = length l }

@@ -5,7 +5,7 @@ ghost use Prim.Native.Nat.{_≤_};
 ghost use lib.Dec.{eqb};
 ghost use lib.ListN.{length};
 ghost use Rattle.text.specs.LineText.{lineOf};
-ghost use Rattle.text.specs.Lines.{pieceEnd, keptLine, content};
+ghost use Rattle.text.specs.Lines.{pieceEnd, keptLine, content, partialOf};
 use crate::line_text;
 use crate::line_text::Line;
 use measures::least;
@@ -36,7 +36,7 @@ pub struct Partial {
 
 // A line that has no bytes yet.
 pub fn begin() -> Partial
-    ensures { λ r. ⌜ content r ≡ [] ⌝ }
+    ensures { λ r. ⌜ r ≡ partialOf [] ⌝ }
 {
     Partial {
         bytes: [0; 81],
@@ -44,11 +44,12 @@ pub fn begin() -> Partial
     }
 }
 
-// The line with the bytes of s behind it.
-pub fn extend(line: Partial, s: &[u8]) -> Partial
-    ensures { λ r. ⌜ content r ≡ keptLine (content line ++ now (s .entry)) ⌝ }
+// The bytes of s behind those of a line that has zeros there.
+fn append(line: Partial, s: &[u8]) -> Partial
+    requires { ⌜ line ≡ partialOf (content line) ⌝ }
+    ensures { λ r. ⌜ r ≡ partialOf (keptLine (content line ++ now (s .entry))) ⌝ }
 {
-    let at = least(line.len, 81);
+    let at = line.len;
     let n = least(s.len(), 81 - at);
     let mut bytes = line.bytes;
     let mut i = 0usize;
@@ -57,6 +58,17 @@ pub fn extend(line: Partial, s: &[u8]) -> Partial
         i += 1;
     }
     Partial { bytes, len: at + n }
+}
+
+// The line with the bytes of s behind it. Of the line only the bytes that count are copied, so that the answer is one value, whatever a
+// caller left behind them.
+pub fn extend(line: Partial, s: &[u8]) -> Partial
+    ensures { λ r. ⌜ r ≡ partialOf (keptLine (content line ++ now (s .entry))) ⌝ }
+{
+    let bytes = line.bytes;
+    let begun = least(line.len, 81);
+    let copied = append(begin(), &bytes[..begun]);
+    append(copied, s)
 }
 
 // Whether the line has no bytes.

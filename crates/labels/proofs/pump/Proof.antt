@@ -1,7 +1,8 @@
 -- Each turn uses some bytes, since the session has not stopped and the buffer has room. Assumes nothing.
-use Prim.Native.Nat.{_+_, _-_, _≤_}
+use Prim.Native.Nat.{ℕ, _+_, _-_, _≤_, _<_}
 use mathlib.Core.Bool.{true, false, not}
-use mathlib.Core.Path.{_≡_, sym, _∙_}
+use mathlib.Core.List.{List}
+use mathlib.Core.Path.{_≡_, sym, ap, _∙_}
 use native.Mathlib.Omega.{arith}
 use borrow.Author.Needs.{needs}
 use borrow.Author.Tests.{ltb-true, not-true}
@@ -9,6 +10,9 @@ use lib.ListN.{length, take, drop, length-drop}
 use lib.Seq.{length-take-le}
 use Rattle.text.proofs.PartLaws.{to-end}
 use Rattle.text.proofs.RunLaws.{both}
+use Rattle.label_lines.specs.declared.session.Absorbed.{Absorbed}
+use Rattle.label_lines.specs.Session.{State, usedOf}
+use Rattle.label_lines.proofs.SessionLaws.{used-some, used-most}
 use Rattle.labels.proofs.pump.Statement.{statement}
 use Rattle.labels.proofs.pump.Tie as tie
 use Rattle.labels.proofs.pump.Reads as reads
@@ -22,6 +26,17 @@ Inv-loop chunk out₀ now₀ at₀ goes-on₀ out now at goes-on = (at ≤ lengt
 
 abbrev μ-loop : tie.MeasureT-loop
 μ-loop chunk out₀ now₀ at₀ goes-on₀ out now at goes-on = length chunk - at
+
+-- the bytes of the rest: some, and those used are among them
+module _ (chunk : List ℕ) (at : ℕ) where
+  rest : length (take (length chunk - at) (drop at chunk)) ≡ length chunk - at
+  rest = rw (to-end chunk at, length-drop)
+
+  rest-some : at < length chunk → 1 ≤ length (take (length chunk - at) (drop at chunk))
+  rest-some inside = rw rest (omega (arith, inside))
+
+  within : (n : ℕ) → at ≤ length chunk → (room : ℕ) (s : State) → n ≡ usedOf room s (take (length chunk - at) (drop at chunk)) → at + n ≤ length chunk
+  within n inside room s e = omega (arith, used-most room s (take (length chunk - at) (drop at chunk)), rest)
 
 -- src/main.rt:16:19
 large-buffer-requires : tie.Need-large-buffer-requires Inv-loop μ-loop
@@ -59,7 +74,7 @@ array-share-prefix-out c = search needs
 slice-aggregate-write-all : tie.Need-slice-aggregate-write-all Inv-loop μ-loop
 slice-aggregate-write-all c =
     let call = c .before .before .before .absorb in
-    let within : call .result .written ≤ length (call .last .1 .1 .0) = omega (arith, call .ensures .1 .0 .0, call .kept .1 .1 .0) in
+    let within : call .result .written ≤ length (call .last .1 .1 .0) = omega (arith, call .ensures .0 .1, call .kept .1 .1 .0) in
     sym (length-take-le (call .result .written) (call .last .1 .1 .0) within)
 
 -- src/main.rt:24:13
@@ -74,8 +89,7 @@ add-at c =
     let inv = loop .inv in
     let chunk = at-loop .before .before .before .before .args .chunk .now in
     let call = c .before .before .before .before .before .before .absorb in
-    let rest : length (take (length chunk - loop .at) (drop (loop .at) chunk)) ≡ length chunk - loop .at = rw (to-end chunk (loop .at), length-drop) in
-    let most : loop .at + call .result .used ≤ length chunk = omega (arith, inv .0, call .ensures .0 .0, rest) in
+    let most = within chunk (loop .at) (call .result .used) (inv .0) _ _ (ap (λ (a : Absorbed). a .used) (call .ensures .0 .0)) in
     search needs
 
 -- src/main.rt:20:5
@@ -87,11 +101,11 @@ loop-less c =
     let inv = loop .inv in
     let chunk = at-loop .before .before .before .before .args .chunk .now in
     let call = c .before .before .before .before .before .before .absorb in
-    let rest : length (take (length chunk - loop .at) (drop (loop .at) chunk)) ≡ length chunk - loop .at = rw (to-end chunk (loop .at), length-drop) in
-    let most : loop .at + call .result .used ≤ length chunk = omega (arith, inv .0, call .ensures .0 .0, rest) in
+    let most = within chunk (loop .at) (call .result .used) (inv .0) _ _ (ap (λ (a : Absorbed). a .used) (call .ensures .0 .0)) in
     let test = both _ _ (at-loop-in .loop-test .taken) in
     let inside = ltb-true (loop .at) (length chunk) (test .0) in
-    let some : 1 ≤ call .result .used = call .ensures .0 .1 (inv .2 (test .1)) (rw rest (omega (arith, inside))) (omega (arith, inv .1)) in
+    let used = ap (λ (a : Absorbed). a .used) (call .ensures .0 .0) in
+    let some : 1 ≤ call .result .used = rw used (used-some _ _ _ (inv .2 (test .1)) (rest-some chunk (loop .at) inside) (omega (arith, inv .1))) in
     omega (arith, some, most, inside)
 
 -- src/main.rt:20:5
@@ -102,8 +116,7 @@ loop-again c =
     let inv = loop .inv in
     let chunk = at-loop .before .before .before .before .args .chunk .now in
     let call = c .before .before .before .before .before .before .absorb in
-    let rest : length (take (length chunk - loop .at) (drop (loop .at) chunk)) ≡ length chunk - loop .at = rw (to-end chunk (loop .at), length-drop) in
-    let most : loop .at + call .result .used ≤ length chunk = omega (arith, inv .0, call .ensures .0 .0, rest) in
+    let most = within chunk (loop .at) (call .result .used) (inv .0) _ _ (ap (λ (a : Absorbed). a .used) (call .ensures .0 .0)) in
     (most, call .kept .1 .1 .0 ∙ inv .1, λ e. not-true (call .result .session .stopped) (both (c .before .before .write-all .result) (not (call .result .session .stopped)) e .1))
 
 -- src/main.rt:15:1

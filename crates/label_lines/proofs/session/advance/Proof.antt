@@ -1,12 +1,15 @@
-use Prim.Native.Nat.{_≤_, _<_}
-use mathlib.Core.Path.{_≡_, sym, _∙_}
+use Prim.Native.Nat.{_-_, _≤_, _<_}
+use mathlib.Core.List.{_++_}
+use mathlib.Core.Path.{_≡_, sym}
 use native.Mathlib.Omega.{arith}
 use borrow.Author.Needs.{needs}
-use lib.ListN.{length}
+use lib.ListN.{length, take}
 use lib.Seq.{length-take-le}
 use Rattle.bar_box.proofs.Overlay.{overlay-none}
+use Rattle.text.specs.Lines.{content, keptLine}
+use Rattle.text.proofs.LineLaws.{content-partial}
 use Rattle.label_lines.specs.Session.{stateOf}
-use Rattle.label_lines.proofs.SessionLaws.{line-used, rest-used}
+use Rattle.label_lines.proofs.SessionLaws.{line-used, rest-used, line-taken, rest-taken}
 use Rattle.label_lines.proofs.session.advance.Statement.{statement}
 use Rattle.label_lines.proofs.session.advance.Tie as tie
 use Rattle.label_lines.proofs.session.advance.Reads as reads
@@ -53,9 +56,15 @@ returns c =
     let stepped = c .before .before .before .before .step .ensures in
     let chunk = args .chunk .now in
     let inside : found .piece-end .result < length chunk = c .before .before .before .before .before .before .if1 .taken in
-    let used = line-used (stateOf (args .st)) chunk (found .piece-end .result) (found .before .before .before .pre .0) (found .piece-end .ensures .0) inside in
+    let s = stateOf (args .st) in
+    let k = found .piece-end .result in
+    let pre = found .before .before .before .pre in
+    let used = line-used s chunk k (pre .0) (found .piece-end .ensures .0) inside in
+    let taken = line-taken s chunk k (pre .0) (found .piece-end .ensures .0) (length (args .out .now) - args .at) (omega (arith, pre .2)) inside in
     let line = extended .extend .ensures in
-    (omega arith, omega (arith, inside), rw (used .0, c .begin .ensures, stepped .0, stepped .1, line), stepped .2, rw (used .1, ← line) (stepped .3), rw (used .1, ← line) (stepped .4))
+    let says : content (extended .extend .result) ≡ keptLine (content (args .st .line) ++ take k chunk) = rw line (content-partial _) in
+    let did = rw says at stepped in
+    ((omega arith, omega (arith, inside), taken), (rw (used .0, c .begin .ensures, did .0, did .1), did .2, rw (used .1) (did .3), rw (used .1) (did .4)))
 
 -- src/session.rt:114:1
 returns-2 : tie.Need-returns-2
@@ -66,8 +75,11 @@ returns-2 c =
     let chunk = args .chunk .now in
     let all : length chunk ≤ found .piece-end .result = c .if1 .left in
     let some : 1 ≤ found .piece-end .result = omega (arith, start .pre .1) in
-    let used = rest-used (stateOf (args .st)) chunk (found .piece-end .result) (start .pre .0) (found .piece-end .ensures .0) some (found .piece-end .ensures .1) in
-    (some, found .piece-end .ensures .1, rw (used .0, c .before .extend .ensures, start .pre .0), omega arith, rw (used .1) (omega arith), rw (used .1) (sym (overlay-none (args .out .now) (args .at))))
+    let s = stateOf (args .st) in
+    let k = found .piece-end .result in
+    let used = rest-used s chunk k (start .pre .0) (found .piece-end .ensures .0) some (found .piece-end .ensures .1) in
+    let taken = rest-taken s chunk k (start .pre .0) (found .piece-end .ensures .0) (length (args .out .now) - args .at) (omega (arith, start .pre .2)) (found .piece-end .ensures .1) in
+    ((some, found .piece-end .ensures .1, taken), (rw (used .0, c .before .extend .ensures), omega arith, rw (used .1) (omega arith), rw (used .1) (sym (overlay-none (args .out .now) (args .at)))))
 
 pub advance-spec : {M : Type 1} → statement M
 advance-spec =

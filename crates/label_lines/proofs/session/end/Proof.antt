@@ -8,6 +8,7 @@ use lib.Dec.{leb}
 use lib.ListN.{length}
 use Rattle.bar_box.proofs.Overlay.{overlay-none}
 use Rattle.text.proofs.RunLaws.{both}
+use Rattle.label_lines.specs.Output.{lineRoom}
 use Rattle.label_lines.specs.Session.{stateOf}
 use Rattle.label_lines.proofs.SessionLaws.{end-prints, end-quiet}
 use Rattle.label_lines.proofs.session.end.Statement.{statement}
@@ -17,7 +18,7 @@ step-requires : tie.Need-step-requires
 step-requires c κs =
     let args = c .before .before .before .before .before .before .before .args in
     let sure = both _ _ (both _ _ (c .before .if1 .taken) .0) in
-    omega (arith, leb-true 1332 (length (args .out .now)) (sure .0))
+    omega (arith, leb-true lineRoom (length (args .out .now)) (sure .0))
 
 same-length : tie.Need-same-length
 same-length c = search needs
@@ -31,7 +32,7 @@ returns c =
     let some = sym (tested .is-empty .ensures) ∙ not-true (tested .is-empty .result) (all .1) in
     let is = end-prints (stateOf (args .st)) (not-true (args .st .stopped) (sure .1)) some in
     let did = c .before .before .step .ensures in
-    ((omega (arith, did .2, leb-true 1332 (length (args .out .now)) (sure .0)), rw (sure .0, is) (omega (arith, did .3))), rw (sure .0, is) (did .4))
+    ((omega (arith, did .2, leb-true lineRoom (length (args .out .now)) (sure .0)), rw (sure .0, is) (omega (arith, did .3))), rw (sure .0, is) (did .4))
 
 returns-2 : tie.Need-returns-2
 returns-2 c =
