@@ -1,18 +1,23 @@
 // One history fed to a box in feeds of different sizes.
-ghost use Prim.Native.Nat.{_+_, _*_, _≤_};
-ghost use lib.ListN.{length};
+ghost use Prim.Native.Nat.{_+_, _≤_};
 use crate::digest::mix;
 use crate::digest::of_box;
 use crate::digest::of_bytes;
 use crate::digest::of_looks;
-use crate::digest::one_more;
-use crate::line::Line;
+use crate::print;
 use bar_box::BarBox;
 use bar_box::Outcome;
 use measures::least;
 use recognisers::Thresholds;
 use recognisers::call::Verdict;
 use recognisers::call::refusal_number;
+use std::num::wrapping_add_u64;
+
+// The most bars of a history here, and a sheet with room for a row more than that has. A byte that is not written shows: it is 255,
+// which no row has.
+pub const BARS: usize = 300;
+
+pub const SHEET: usize = 36 * (BARS + 1);
 
 // How many bars the first feed has and how many each later one, the last as many as are left; whether an empty feed goes before
 // each, and whether refused ones come after it.
@@ -38,24 +43,6 @@ pub struct Left {
     pub looks: u64,
 }
 
-fn size_name(line: Line, cut: Cut) -> Line {
-    if cut.first == cut.later {
-        line.text(b" by ")
-    } else {
-        line.text(b" first ")
-    }
-}
-
-fn text_if(line: Line, wanted: bool, s: &[u8]) -> Line {
-    if wanted { line.text(s) } else { line }
-}
-
-fn named(line: Line, cut: Cut) -> Line {
-    let sized = size_name(line, cut).number(cut.first as u64);
-    let emptied = text_if(sized, cut.empty, b", empty feeds");
-    text_if(emptied, cut.refused, b", refused feeds")
-}
-
 // 0, or the number of the refusal.
 pub fn verdict_number(v: Verdict) -> u64 {
     match v {
@@ -64,87 +51,61 @@ pub fn verdict_number(v: Verdict) -> u64 {
     }
 }
 
-fn start() -> Fed {
-    let made = bar_box::make(Thresholds::standard());
-    let after = made.after;
-    Fed {
-        after,
-        accepted: 0,
-        refused: 0,
-        verdicts: 1,
-    }
+// The lent prices from one on, before another, as far as there are any.
+pub fn part(prices: &[f64], from: usize, to: usize) -> &[f64] {
+    let e = least(to, prices.len());
+    let a = least(from, e);
+    &prices[a..e]
 }
 
-fn noted(f: Fed, out: Outcome) -> Fed {
+// A feed that is lent the bytes of a sheet from one on, before another.
+pub fn feed_to(b: BarBox, prices: &[f64], sheet: &mut [u8], from: usize, to: usize) -> Outcome {
+    let e = least(to, sheet.len());
+    let a = least(from, e);
+    bar_box::feed(b, prices, &mut sheet[a..e])
+}
+
+// One feed more, if it is wanted.
+fn feed(f: Fed, wanted: bool, prices: &[f64], sheet: &mut [u8], from: usize, to: usize) -> Fed {
+    if !wanted {
+        return f;
+    }
+    let b = f.after;
+    let out = feed_to(b, prices, sheet, from, to);
     let after = out.after;
     let verdict = out.verdict;
     let number = verdict_number(verdict);
     Fed {
         after,
-        accepted: one_more(f.accepted, number == 0),
-        refused: one_more(f.refused, number != 0),
+        accepted: wrapping_add_u64(f.accepted, (number == 0) as u64),
+        refused: wrapping_add_u64(f.refused, (number != 0) as u64),
         verdicts: mix(f.verdicts, number),
     }
 }
 
-// A feed of n bars from a bar on; their rows go to their place of the sheet.
-fn feed_bars(f: Fed, prices: &[f64], from: usize, n: usize, sheet: &mut [u8]) -> Fed
-    requires { ⌜ (4 * (from + n) ≤ length (now prices)) × (36 * (from + n) ≤ length (now sheet)) ⌝ }
+// Two feeds of n bars from a bar on that are refused, 4 and 6: a price is missing, then a byte. They are lent rows that are written
+// already, which they would spoil.
+fn feed_refused(f: Fed, wanted: bool, prices: &[f64], sheet: &mut [u8], bar: usize, n: usize) -> Fed
+    requires { ⌜ bar + n ≤ 300 ⌝ }
 {
-    let a = 4 * from;
-    let e = 4 * (from + n);
-    let at = 36 * from;
-    let b = f.after;
-    noted(f, bar_box::feed(b, &prices[a..e], &mut sheet[at..]))
+    let a = 4 * bar;
+    let e = 4 * (bar + n);
+    let at = 36 * bar;
+    let end = 36 * (bar + n);
+    let next = feed(f, wanted, part(prices, a + 1, e), sheet, at, end);
+    feed(next, wanted, part(prices, a, e), sheet, at + 1, end)
 }
 
-// A feed of no bars, if it is wanted.
-fn feed_none(f: Fed, wanted: bool, prices: &[f64], from: usize, sheet: &mut [u8]) -> Fed
-    requires { ⌜ (4 * from ≤ length (now prices)) × (36 * from ≤ length (now sheet)) ⌝ }
+// The feeds of n bars from a bar on; their rows go to their place of the sheet.
+fn feed_turn(f: Fed, cut: Cut, prices: &[f64], sheet: &mut [u8], bar: usize, n: usize) -> Fed
+    requires { ⌜ bar + n ≤ 300 ⌝ }
 {
-    if wanted {
-        feed_bars(f, prices, from, 0, sheet)
-    } else {
-        f
-    }
-}
-
-// Two feeds that are refused, 4 and 6, if they are wanted: the last price is missing, then the last byte. They are lent rows that
-// are written already, which they would spoil.
-fn feed_refused(
-    f: Fed,
-    wanted: bool,
-    prices: &[f64],
-    from: usize,
-    n: usize,
-    sheet: &mut [u8],
-) -> Fed
-    requires { ⌜ (1 ≤ n) × ((4 * (from + n) ≤ length (now prices)) × (36 * (from + n) ≤ length (now sheet))) ⌝ }
-{
-    if !wanted {
-        return f;
-    }
-    let a = 4 * from;
-    let e = 4 * (from + n);
-    let at = 36 * from;
-    let end = 36 * (from + n);
-    let short = e - 1;
-    let brief = end - 1;
-    let b = f.after;
-    let next = noted(f, bar_box::feed(b, &prices[a..short], &mut sheet[at..end]));
-    let same = next.after;
-    noted(
-        next,
-        bar_box::feed(same, &prices[a..e], &mut sheet[at..brief]),
-    )
-}
-
-fn feed_turn(f: Fed, cut: Cut, prices: &[f64], from: usize, n: usize, sheet: &mut [u8]) -> Fed
-    requires { ⌜ (1 ≤ n) × ((4 * (from + n) ≤ length (now prices)) × (36 * (from + n) ≤ length (now sheet))) ⌝ }
-{
-    let begun = feed_none(f, cut.empty, prices, from, sheet);
-    let fed = feed_bars(begun, prices, from, n, sheet);
-    feed_refused(fed, cut.refused, prices, from, n, sheet)
+    let a = 4 * bar;
+    let e = 4 * (bar + n);
+    let at = 36 * bar;
+    let begun = feed(f, cut.empty, part(prices, a, a), sheet, at, SHEET);
+    let fed = feed(begun, true, part(prices, a, e), sheet, at, SHEET);
+    feed_refused(fed, cut.refused, prices, sheet, bar, n)
 }
 
 // How many bars a feed takes: never none, so that the feeds end.
@@ -156,64 +117,45 @@ fn size(cut: Cut, done: usize, left: usize) -> usize
     if want == 0 { 1 } else { least(want, left) }
 }
 
-fn feed_all(cut: Cut, prices: &[f64], bars: usize, sheet: &mut [u8]) -> Fed
-    requires { ⌜ (4 * bars ≤ length (now prices)) × (36 * bars ≤ length (now sheet)) ⌝ }
-{
-    let mut f = start();
+fn feed_all(cut: Cut, prices: &[f64], sheet: &mut [u8]) -> Fed {
+    let made = bar_box::make(Thresholds::standard());
+    let after = made.after;
+    let bars = least(measures::count(prices), BARS);
+    let mut f = Fed {
+        after,
+        accepted: 0,
+        refused: 0,
+        verdicts: 1,
+    };
     let mut done = 0usize;
     while done < bars {
         let n = size(cut, done, bars - done);
-        f = feed_turn(f, cut, prices, done, n, sheet);
+        f = feed_turn(f, cut, prices, sheet, done, n);
         done += n;
     }
     f
 }
 
-// Every byte is one that no row has, so that a byte that is not written shows.
-pub fn clear(sheet: &mut [u8]) {
-    let mut i = 0usize;
-    while i < sheet.len() {
-        sheet[i] = 255;
-        i += 1;
-    }
+pub fn write(left: Left) {
+    print::digest(b": sheet ", left.sheet);
+    print::digest(b" box ", left.places);
+    print::digest(b" looks ", left.looks);
 }
 
-fn left_by(f: Fed, sheet: &[u8]) -> Left {
+// Feeds a history whole and writes what that leaves.
+pub fn run(cut: Cut, prices: &[f64]) -> Left {
+    let mut sheet = [255u8; SHEET];
+    let f = feed_all(cut, prices, &mut sheet);
     let b = f.after;
-    Left {
-        sheet: of_bytes(sheet),
+    let left = Left {
+        sheet: of_bytes(&sheet),
         places: of_box(b),
         looks: of_looks(b),
-    }
-}
-
-pub fn left_text(line: Line, left: Left) -> Line {
-    line.text(b": sheet ")
-        .digest(left.sheet)
-        .text(b" box ")
-        .digest(left.places)
-        .text(b" looks ")
-        .digest(left.looks)
-}
-
-fn write(line: Line, f: Fed, left: Left) {
-    left_text(line, left)
-        .text(b" accepted ")
-        .number(f.accepted)
-        .text(b" refused ")
-        .number(f.refused)
-        .text(b" verdicts ")
-        .digest(f.verdicts)
-        .end();
-}
-
-// Feeds a history whole and writes what that leaves, on a line that begins with the history's name.
-pub fn run(line: Line, cut: Cut, prices: &[f64], sheet: &mut [u8]) -> Left {
-    clear(sheet);
-    let bars = least(prices.len() / 4, sheet.len() / 36);
-    let f = feed_all(cut, prices, bars, sheet);
-    let left = left_by(f, sheet);
-    write(named(line, cut), f, left);
+    };
+    write(left);
+    print::number(b" accepted ", f.accepted);
+    print::number(b" refused ", f.refused);
+    print::digest(b" verdicts ", f.verdicts);
     left
 }
 

@@ -1,63 +1,45 @@
-// Which labels the rows of a sheet have.
-ghost use Prim.Native.Nat.{_<_};
-use crate::digest::one_more;
-use crate::line::Line;
+// Which labels the rows of a history have.
+ghost use Prim.Native.Nat.{_≤_};
+use crate::cuts::BARS;
+use crate::plain::rows;
+use crate::print;
+use measures::least;
+use std::num::wrapping_add_u64;
 
-// How many rows have a v1 other than 其他 for a recogniser.
-fn of_recogniser(sheet: &[u8], k: usize) -> u64
-    requires { ⌜ k < 18 ⌝ }
+// How many of the v1 at a place of the sheet and each so many bytes on are a code, or are not.
+fn count(sheet: &[u8], from: usize, by: usize, code: u8, is: bool) -> u64
+    requires { ⌜ (1 ≤ by) × (by ≤ 36) ⌝ }
 {
-    let rows = sheet.len() / 36;
     let mut n = 0;
-    let mut j = 0usize;
-    while j < rows {
-        n = one_more(n, sheet[36 * j + 2 * k] != 0);
-        j += 1;
+    let mut at = from;
+    while at < sheet.len() {
+        n = wrapping_add_u64(n, ((sheet[at] == code) == is) as u64);
+        at += by;
     }
     n
 }
 
-// How many pairs have this v1.
-fn of_code(sheet: &[u8], code: u8) -> u64 {
-    let pairs = sheet.len() / 2;
-    let mut n = 0;
-    let mut j = 0usize;
-    while j < pairs {
-        n = one_more(n, sheet[2 * j] == code);
-        j += 1;
-    }
-    n
-}
-
-fn with_recognisers(line: Line, sheet: &[u8]) -> Line {
-    let mut longer = line;
+// For each recogniser how often its v1 is other than 其他.
+pub fn write_recognisers(prices: &[f64]) {
+    let sheet = rows(prices);
+    let end = 36 * least(measures::count(prices), BARS);
     let mut k = 0usize;
     while k < 18 {
-        longer = longer.item(of_recogniser(sheet, k));
+        print::number(b" ", count(&sheet[0..end], 2 * k, 36, 0, false));
         k += 1;
     }
-    longer
 }
 
-fn with_code(line: Line, code: u8, n: u64) -> Line {
-    if n == 0 {
-        return line;
-    }
-    line.item(code as u64).text(b"x").number(n)
-}
-
-fn with_codes(line: Line, sheet: &[u8]) -> Line {
-    let mut longer = line;
+// How often each such v1 stands.
+pub fn write_codes(prices: &[f64]) {
+    let sheet = rows(prices);
     let mut code = 1u8;
     while code < 38 {
-        longer = with_code(longer, code, of_code(sheet, code));
+        let n = count(&sheet, 0, 2, code, true);
+        if n != 0 {
+            print::number(b" ", code as u64);
+            print::number(b"x", n);
+        }
         code += 1;
     }
-    longer
-}
-
-// Two lines: for each recogniser how often its v1 is other than 其他, and how often each such v1 stands.
-pub fn write(line: Line, sheet: &[u8]) {
-    with_recognisers(line.text(b" found by recognisers:"), sheet).end();
-    with_codes(line.text(b" found v1:"), sheet).end();
 }

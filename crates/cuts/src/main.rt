@@ -1,141 +1,250 @@
 // Cuts histories into feeds in many ways and writes digests of what each cut leaves: the sheet, the box and all looks are those of
-// the plain call, however the history is cut. `by N` is feeds of N bars, `first N` one of N and then the rest; empty feeds go before
-// each feed, refused ones after it. Then the refusals and the limits of the box, a line each. Every function is proved safe and
-// ending; what is written is seen in the file stdout, which the gate holds this program to.
+// the plain call, however the history is cut. Then the refusals and the limits of the box.
+//
+// Standard input has a step on each line: a word, of which the first letter says what is done, numbers, and after a bar the text that
+// begins the line that the step writes. A float F has two decimals, or is as x0 to x11 one of script::UNUSUAL.
+//   F F F F               one bar more of the history: open, close, high, low
+//   history               a history without bars
+//   plain                 what plain calls over the history give, which each cut should leave
+//   cut N N N N           the history in feeds: the bars of the first, the bars of each later one, 1 if an empty feed goes before each,
+//                         1 if refused ones come after it
+//   recognisers           for each recogniser how often its v1 is other than 其他
+//   v1                    how often each such v1 stands
+//   same                  whether each cut since the plain calls left what they give
+//   thresholds F N        the verdicts on thirteen makings, each with one threshold changed: to F if it is a float, else to N
+//   make F                a box: that of a making with th8 = F, which is 2.00 in the standard set
+//   occupied F            a box that counts no bars and whose places hold F
+//   grow N                the box after a feed of the history's first N bars
+//   edit F N              the box with th8 = F and a count of N, as a caller can fill it in
+//   feed N N N            a feed of the history's prices from one on, before another, that is lent so many bytes of a sheet
+//   look N N              a look: recogniser, offset
+//   all N                 the looks of all recognisers at an offset
+//   inside                what the places of the box hold
+// Any other line is a comment. The histories were written by generators from the seed 20221118, and are kept as they came.
+//
+// Every function is proved safe and ending; what is written is seen in the file stdout, which the gate holds this program to.
 mod cuts;
 mod digest;
-mod history;
 mod labels;
 mod limits;
-mod line;
 mod plain;
+mod print;
+mod script;
 
+use bar_box::BarBox;
+use cuts::BARS;
 use cuts::Cut;
 use cuts::Left;
-use history::BARS;
-use history::Kind;
-use line::Line;
+use libc::STDIN_FILENO;
+use libc::STDOUT_FILENO;
+use measures::Bar;
 use measures::least;
+use recognisers::Thresholds;
+use script::EMPTY;
+use script::Line;
+use script::float;
 
-// The prices of the longest history; and a sheet with room for a row more than that has.
 const PRICES: usize = 4 * BARS;
 
-const SHEET: usize = 36 * (BARS + 1);
+const WORD: u64 = 0x1_0000_0000;
 
-// The ways to cut.
-const CUTS: u32 = 15;
+struct History {
+    prices: [f64; PRICES],
+    bars: usize,
+}
 
-fn simple(first: usize, later: usize) -> Cut {
+// What every cut should leave, and whether each has done so.
+struct Seen {
+    expected: Left,
+    same: bool,
+}
+
+struct State {
+    history: History,
+    held: BarBox,
+    seen: Seen,
+}
+
+fn start() -> State {
+    let made = bar_box::make(Thresholds::standard());
+    let held = made.after;
+    let left = Left {
+        sheet: 0,
+        places: 0,
+        looks: 0,
+    };
+    State {
+        history: History {
+            prices: [0.0; PRICES],
+            bars: 0,
+        },
+        held,
+        seen: Seen {
+            expected: left,
+            same: true,
+        },
+    }
+}
+
+// A bar for which there is no room takes the place of the last.
+fn with_bar(h: History, line: Line) -> History {
+    let mut prices = h.prices;
+    let i = least(h.bars, BARS - 1);
+    prices[4 * i] = float(line.a);
+    prices[4 * i + 1] = float(line.b);
+    prices[4 * i + 2] = float(line.c);
+    prices[4 * i + 3] = float(line.d);
+    History {
+        prices,
+        bars: i + 1,
+    }
+}
+
+// The history after a step.
+fn history_after(h: History, line: Line) -> History {
+    let letter = line.letter;
+    let prices = h.prices;
+    match letter {
+        b'0'..=b'9' | b'x' => with_bar(h, line),
+        b'h' => History { prices, bars: 0 },
+        _ => h,
+    }
+}
+
+// The box after a step.
+fn box_after(held: BarBox, line: Line, prices: &[f64]) -> BarBox {
+    let letter = line.letter;
+    let bars = held.bars;
+    match letter {
+        b'm' => {
+            let made = bar_box::make(limits::changed(8, float(line.d), 0));
+            made.after
+        }
+        b'o' => {
+            let x = float(line.d);
+            let place = Bar {
+                open: x,
+                close: x,
+                high: x,
+                low: x,
+            };
+            BarBox {
+                thresholds: Thresholds::standard(),
+                count: 0,
+                bars: [place; 64],
+            }
+        }
+        b'e' => BarBox {
+            thresholds: limits::changed(8, float(line.c), 0),
+            count: (line.d % WORD) as u32,
+            bars,
+        },
+        b'g' => limits::fed(held, measures::first_bars(prices, line.d as usize)),
+        b'f' => limits::feed(
+            held,
+            cuts::part(prices, line.b as usize, line.c as usize),
+            line.d as usize,
+        ),
+        _ => held,
+    }
+}
+
+fn write_same(same: bool) {
+    if same {
+        io::write_all(STDOUT_FILENO, b" same");
+    } else {
+        io::write_all(STDOUT_FILENO, b" DIFFERS");
+    }
+}
+
+fn cut_of(line: Line) -> Cut {
     Cut {
-        first,
-        later,
-        empty: false,
-        refused: false,
+        first: line.a as usize,
+        later: line.b as usize,
+        empty: line.c != 0,
+        refused: line.d != 0,
     }
 }
 
-fn cut_of(i: u32) -> Cut {
-    match i {
-        0 => simple(BARS, BARS),
-        1 => simple(1, 1),
-        2 => simple(7, 7),
-        3 => simple(64, 64),
-        4 => simple(1, BARS),
-        5 => simple(21, BARS),
-        6 => simple(22, BARS),
-        7 => simple(23, BARS),
-        8 => simple(24, BARS),
-        9 => simple(63, BARS),
-        10 => simple(64, BARS),
-        11 => simple(65, BARS),
-        12 => Cut {
-            first: 7,
-            later: 7,
-            empty: true,
-            refused: false,
-        },
-        13 => Cut {
-            first: 64,
-            later: 64,
-            empty: false,
-            refused: true,
-        },
-        _ => Cut {
-            first: 1,
-            later: 1,
-            empty: true,
-            refused: true,
-        },
+// What is seen of the cuts after a step.
+fn seen_after(seen: Seen, line: Line, prices: &[f64]) -> Seen {
+    let letter = line.letter;
+    let expected = seen.expected;
+    match letter {
+        b'p' => {
+            let left = plain::left(prices);
+            cuts::write(left);
+            Seen {
+                expected: left,
+                same: true,
+            }
+        }
+        b'c' => {
+            let left = cuts::run(cut_of(line), prices);
+            Seen {
+                expected,
+                same: seen.same & cuts::is_same(left, expected),
+            }
+        }
+        b's' => {
+            write_same(seen.same);
+            seen
+        }
+        _ => seen,
     }
 }
 
-fn kind_name(kind: Kind) -> Line {
-    let line = Line::new();
-    match kind {
-        Kind::Walk => line.text(b"walk "),
-        Kind::Ties => line.text(b"ties "),
-        Kind::Shapes => line.text(b"shapes "),
-        Kind::Gate => line.text(b"gate "),
-        Kind::Flat => line.text(b"flat "),
-        Kind::Hostile => line.text(b"hostile "),
+// Writes what a step says that changes nothing.
+fn write(line: Line, held: BarBox, prices: &[f64]) {
+    let letter = line.letter;
+    let n = (line.d % WORD) as u32;
+    match letter {
+        b'r' => labels::write_recognisers(prices),
+        b'v' => labels::write_codes(prices),
+        b't' => limits::write_makings(float(line.c), n),
+        b'l' => limits::write_look(held, (line.c % WORD) as u32, n),
+        b'a' => limits::write_looks(held, n),
+        b'i' => limits::write_places(held),
+        _ => {}
     }
 }
 
-// What every cut should leave, on a line of its own.
-fn expect(name: Line, prices: &[f64], sheet: &mut [u8]) -> Left {
-    cuts::clear(sheet);
-    let left = plain::left(prices, sheet);
-    cuts::left_text(name.text(b" by plain calls"), left).end();
-    left
+// Takes the step of a line.
+fn step(st: State, line: Line) -> State {
+    let h = st.history;
+    let prices = h.prices;
+    let held = st.held;
+    let seen = st.seen;
+    let lent = measures::first_bars(&prices, h.bars);
+    write(line, held, lent);
+    let after = State {
+        history: history_after(h, line),
+        held: box_after(held, line, lent),
+        seen: seen_after(seen, line, lent),
+    };
+    if line.in_text {
+        print::byte(b'\n');
+    }
+    after
 }
 
-// Whether every cut leaves that.
-fn run_cuts(name: Line, expected: Left, prices: &[f64], sheet: &mut [u8]) -> bool {
-    let mut same = true;
-    let mut i = 0u32;
-    while i < CUTS {
-        let left = cuts::run(name, cut_of(i), prices, sheet);
-        same = same & cuts::is_same(expected, left);
+fn run(script: &[u8]) {
+    let mut st = start();
+    let mut line = EMPTY;
+    let mut i = 0usize;
+    while i < script.len() {
+        if script[i] == b'\n' {
+            st = step(st, line);
+            line = EMPTY;
+        } else {
+            line = script::with_byte(line, script[i]);
+        }
         i += 1;
     }
-    same
-}
-
-fn write_same(name: Line, same: bool) {
-    if same {
-        name.text(b" same").end();
-    } else {
-        name.text(b" DIFFERS").end();
-    }
-}
-
-// A history of so many bars in every cut.
-fn block(kind: Kind, bars: usize) {
-    let name = kind_name(kind).number(bars as u64);
-    let mut prices = [0.0; PRICES];
-    history::fill(kind, &mut prices);
-    let mut sheet = [255u8; SHEET];
-    let end = 4 * least(bars, BARS);
-    let expected = expect(name, &prices[0..end], &mut sheet);
-    let same = run_cuts(name, expected, &prices[0..end], &mut sheet);
-    let rows = 36 * least(bars, BARS);
-    labels::write(name, &sheet[0..rows]);
-    write_same(name, same);
-}
-
-fn limit_lines() {
-    let mut prices = [0.0; PRICES];
-    history::fill(Kind::Ties, &mut prices);
-    limits::write(&prices);
 }
 
 fn main() {
-    block(Kind::Walk, 300);
-    block(Kind::Ties, 300);
-    block(Kind::Ties, 40);
-    block(Kind::Shapes, 300);
-    block(Kind::Gate, 300);
-    block(Kind::Flat, 100);
-    block(Kind::Hostile, 300);
-    limit_lines();
+    let mut script = io::large_buffer();
+    let n = io::read_full(STDIN_FILENO, &mut script);
+    run(&script[..n]);
 }

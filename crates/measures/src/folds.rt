@@ -4,9 +4,9 @@ ghost use mathlib.Core.List.{[], _∷_, foldl};
 ghost use Rattle.measures.specs.Bar.{barsOf};
 ghost use Rattle.measures.specs.Fold.{priceOf, columnOf, stepOf, highestOf, lowestOf, sizeOf, meanOf, varianceOf, testOf, everyOf, extremesOf, lowSide, highSide};
 use crate::bars::Bar;
-use prices::price;
 use crate::windows::bar_at;
 use crate::windows::count;
+use prices::price;
 
 // A price of a bar.
 pub enum Column {

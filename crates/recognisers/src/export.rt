@@ -14,9 +14,9 @@ ghost use Rattle.recognisers.specs.Export.{wordAt, priceAt, pricesAt, pr
 use crate::call;
 use crate::call::Answer;
 use crate::call::Verdict;
+use measures::price;
 use rule_table::table;
 use rule_table::thresholds::Thresholds;
-use measures::price;
 use rule_types::counts;
 use rule_types::label::Pair;
 use rule_types::label::code;

@@ -7,13 +7,22 @@ use Rattle.cuts.proofs.cuts.feed_all.Statement.{statement}
 use Rattle.cuts.proofs.cuts.feed_all.Tie as tie
 
 abbrev Inv-loop : tie.InvT-loop
-Inv-loop cut prices bars sheet₀ f₀ done₀ sheet f done = (done ≤ bars) × (length sheet ≡ length sheet₀)
+Inv-loop cut prices sheet₀ bars f₀ done₀ sheet f done = (done ≤ bars) × (length sheet ≡ length sheet₀)
 
 abbrev μ-loop : tie.MeasureT-loop
-μ-loop cut prices bars sheet₀ f₀ done₀ sheet f done = bars - done
+μ-loop cut prices sheet₀ bars f₀ done₀ sheet f done = bars - done
 
-start-requires : tie.Need-start-requires Inv-loop μ-loop
-start-requires c κs = search needs
+standard-requires : tie.Need-standard-requires Inv-loop μ-loop
+standard-requires c κs = search needs
+
+make-requires : tie.Need-make-requires Inv-loop μ-loop
+make-requires c κs = search needs
+
+count-requires : tie.Need-count-requires Inv-loop μ-loop
+count-requires c κs = search needs
+
+least-requires : tie.Need-least-requires Inv-loop μ-loop
+least-requires c κs = search needs
 
 loop-holds : tie.Need-loop-holds Inv-loop μ-loop
 loop-holds c = search needs
@@ -48,7 +57,10 @@ feed-all-spec =
     (tie.spec
     Inv-loop
     μ-loop
-    start-requires
+    standard-requires
+    make-requires
+    count-requires
+    least-requires
     loop-holds
     sub-size
     size-requires

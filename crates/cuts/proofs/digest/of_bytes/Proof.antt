@@ -1,6 +1,7 @@
 -- `cuts::digest::of_bytes` is safe and ends. Assumes nothing.
 use lib.ListN.{length}
 use Prim.Native.Nat.{_≤_, _-_}
+use native.Mathlib.Omega.{arith}
 use borrow.Author.Needs.{needs}
 use Rattle.cuts.proofs.digest.of_bytes.Statement.{statement}
 use Rattle.cuts.proofs.digest.of_bytes.Tie as tie
@@ -14,11 +15,11 @@ abbrev μ-loop : tie.MeasureT-loop
 loop-holds : tie.Need-loop-holds Inv-loop μ-loop
 loop-holds c = search needs
 
-shared-slice-read-wide : tie.Need-shared-slice-read-wide Inv-loop μ-loop
-shared-slice-read-wide c = search needs
+shared-slice-read-mix : tie.Need-shared-slice-read-mix Inv-loop μ-loop
+shared-slice-read-mix c = search needs
 
-wide-requires : tie.Need-wide-requires Inv-loop μ-loop
-wide-requires c κs = search needs
+cast-mix : tie.Need-cast-mix Inv-loop μ-loop
+cast-mix c = omega (arith, c .shared-slice-known2 .given (c .before .before .loop .i))
 
 mix-requires : tie.Need-mix-requires Inv-loop μ-loop
 mix-requires c κs = search needs
@@ -42,8 +43,8 @@ of-bytes-spec =
     Inv-loop
     μ-loop
     loop-holds
-    shared-slice-read-wide
-    wide-requires
+    shared-slice-read-mix
+    cast-mix
     mix-requires
     add-i
     loop-less

@@ -5,19 +5,28 @@ use Rattle.cuts.proofs.digest.of_looks.Statement.{statement}
 use Rattle.cuts.proofs.digest.of_looks.Tie as tie
 
 abbrev Inv-loop : tie.InvT-loop
-Inv-loop b d₀ k₀ d k = k ≤ 18
+Inv-loop b d₀ i₀ d i = i ≤ 810
 
 abbrev μ-loop : tie.MeasureT-loop
-μ-loop b d₀ k₀ d k = 18 - k
+μ-loop b d₀ i₀ d i = 810 - i
 
 loop-holds : tie.Need-loop-holds Inv-loop μ-loop
 loop-holds c = search needs
 
-mix-looks-requires : tie.Need-mix-looks-requires Inv-loop μ-loop
-mix-looks-requires c κs = search needs
+look-requires : tie.Need-look-requires Inv-loop μ-loop
+look-requires c κs = search needs
 
-add-k : tie.Need-add-k Inv-loop μ-loop
-add-k c = search needs
+answer-number-requires : tie.Need-answer-number-requires Inv-loop μ-loop
+answer-number-requires c κs = search needs
+
+cast-mix : tie.Need-cast-mix Inv-loop μ-loop
+cast-mix c = search needs
+
+mix-requires : tie.Need-mix-requires Inv-loop μ-loop
+mix-requires c κs = search needs
+
+add-i : tie.Need-add-i Inv-loop μ-loop
+add-i c = search needs
 
 loop-less : tie.Need-loop-less Inv-loop μ-loop
 loop-less c = search needs
@@ -31,4 +40,15 @@ returns c = search needs
 pub of-looks-spec : {M : Type 1} → statement M
 of-looks-spec =
     tie.close
-    (tie.spec Inv-loop μ-loop loop-holds mix-looks-requires add-k loop-less loop-again returns)
+    (tie.spec
+    Inv-loop
+    μ-loop
+    loop-holds
+    look-requires
+    answer-number-requires
+    cast-mix
+    mix-requires
+    add-i
+    loop-less
+    loop-again
+    returns)

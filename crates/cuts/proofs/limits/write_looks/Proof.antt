@@ -1,17 +1,20 @@
--- `cuts::digest::mix_looks` is safe and ends. Assumes nothing.
+-- `cuts::limits::write_looks` is safe and ends. Assumes nothing.
 use Prim.Native.Nat.{_≤_, _-_}
 use borrow.Author.Needs.{needs}
-use Rattle.cuts.proofs.digest.mix_looks.Statement.{statement}
-use Rattle.cuts.proofs.digest.mix_looks.Tie as tie
+use Rattle.cuts.proofs.limits.write_looks.Statement.{statement}
+use Rattle.cuts.proofs.limits.write_looks.Tie as tie
 
 abbrev Inv-loop : tie.InvT-loop
-Inv-loop d b k next₀ di₀ next di = di ≤ 45
+Inv-loop b di k₀ t4 k = k ≤ 18
 
 abbrev μ-loop : tie.MeasureT-loop
-μ-loop d b k next₀ di₀ next di = 45 - di
+μ-loop b di k₀ t4 k = 18 - k
 
 loop-holds : tie.Need-loop-holds Inv-loop μ-loop
 loop-holds c = search needs
+
+slice-aggregate-number : tie.Need-slice-aggregate-number Inv-loop μ-loop
+slice-aggregate-number c = search needs
 
 look-requires : tie.Need-look-requires Inv-loop μ-loop
 look-requires c κs = search needs
@@ -19,14 +22,14 @@ look-requires c κs = search needs
 answer-number-requires : tie.Need-answer-number-requires Inv-loop μ-loop
 answer-number-requires c κs = search needs
 
-cast-mix : tie.Need-cast-mix Inv-loop μ-loop
-cast-mix c = search needs
+cast-number : tie.Need-cast-number Inv-loop μ-loop
+cast-number c = search needs
 
-mix-requires : tie.Need-mix-requires Inv-loop μ-loop
-mix-requires c κs = search needs
+number-requires : tie.Need-number-requires Inv-loop μ-loop
+number-requires c κs = search needs
 
-add-di : tie.Need-add-di Inv-loop μ-loop
-add-di c = search needs
+add-k : tie.Need-add-k Inv-loop μ-loop
+add-k c = search needs
 
 loop-less : tie.Need-loop-less Inv-loop μ-loop
 loop-less c = search needs
@@ -37,18 +40,19 @@ loop-again c = search needs
 returns : tie.Need-returns Inv-loop μ-loop
 returns c = search needs
 
-pub mix-looks-spec : {M : Type 1} → statement M
-mix-looks-spec =
+pub write-looks-spec : {M : Type 1} → statement M
+write-looks-spec =
     tie.close
     (tie.spec
     Inv-loop
     μ-loop
     loop-holds
+    slice-aggregate-number
     look-requires
     answer-number-requires
-    cast-mix
-    mix-requires
-    add-di
+    cast-number
+    number-requires
+    add-k
     loop-less
     loop-again
     returns)

@@ -1,14 +1,14 @@
--- `cuts::limits::with_makings` is safe and ends. Assumes nothing.
+-- `cuts::limits::write_makings` is safe and ends. Assumes nothing.
 use Prim.Native.Nat.{_≤_, _-_}
 use borrow.Author.Needs.{needs}
-use Rattle.cuts.proofs.limits.with_makings.Statement.{statement}
-use Rattle.cuts.proofs.limits.with_makings.Tie as tie
+use Rattle.cuts.proofs.limits.write_makings.Statement.{statement}
+use Rattle.cuts.proofs.limits.write_makings.Tie as tie
 
 abbrev Inv-loop : tie.InvT-loop
-Inv-loop x n longer₀ i₀ longer i = i ≤ 13
+Inv-loop x n i₀ t6 i = i ≤ 13
 
 abbrev μ-loop : tie.MeasureT-loop
-μ-loop x n longer₀ i₀ longer i = 13 - i
+μ-loop x n i₀ t6 i = 13 - i
 
 loop-holds : tie.Need-loop-holds Inv-loop μ-loop
 loop-holds c = search needs
@@ -19,11 +19,14 @@ changed-requires c κs = search needs
 make-requires : tie.Need-make-requires Inv-loop μ-loop
 make-requires c κs = search needs
 
-verdict-of-requires : tie.Need-verdict-of-requires Inv-loop μ-loop
-verdict-of-requires c κs = search needs
+slice-aggregate-number : tie.Need-slice-aggregate-number Inv-loop μ-loop
+slice-aggregate-number c = search needs
 
-item-requires : tie.Need-item-requires Inv-loop μ-loop
-item-requires c κs = search needs
+verdict-number-requires : tie.Need-verdict-number-requires Inv-loop μ-loop
+verdict-number-requires c κs = search needs
+
+number-requires : tie.Need-number-requires Inv-loop μ-loop
+number-requires c κs = search needs
 
 add-i : tie.Need-add-i Inv-loop μ-loop
 add-i c = search needs
@@ -37,8 +40,8 @@ loop-again c = search needs
 returns : tie.Need-returns Inv-loop μ-loop
 returns c = search needs
 
-pub with-makings-spec : {M : Type 1} → statement M
-with-makings-spec =
+pub write-makings-spec : {M : Type 1} → statement M
+write-makings-spec =
     tie.close
     (tie.spec
     Inv-loop
@@ -46,8 +49,9 @@ with-makings-spec =
     loop-holds
     changed-requires
     make-requires
-    verdict-of-requires
-    item-requires
+    slice-aggregate-number
+    verdict-number-requires
+    number-requires
     add-i
     loop-less
     loop-again
