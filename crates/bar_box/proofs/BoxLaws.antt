@@ -8,8 +8,7 @@ use native.Mathlib.Decide.{decLe}
 use native.Mathlib.Nat.{add-zero, add-assoc}
 use lib.ListN.{length, take, drop, replicate, length-append, length-take, length-drop, take-append-drop, drop-of-length-le}
 use lib.Seq.{take-all, take-append-seam, drop-append-add, drop-drop}
-use Rattle.measures.specs.declared.bars.Bar.{Bar}
-use Rattle.measures.specs.Bar.{barsOf}
+use Rattle.measures.specs.Bar.{Bar, barsOf}
 use Rattle.measures.specs.Window.{newest}
 use Rattle.recognisers.specs.Number.{places}
 use Rattle.bar_box.specs.declared.boxes.BarBox.{BarBox}

@@ -7,7 +7,7 @@ use native.Mathlib.Omega.{arith}
 use native.Mathlib.Nat.{zero-add}
 use lib.ListN.{length, drop}
 use lib.Ieee.{le, ofBits}
-use Rattle.measures.specs.declared.bars.Bar.{Bar}
+use Rattle.measures.specs.Bar.{Bar}
 use Rattle.measures.specs.Window.{newest}
 use Rattle.measures.proofs.WindowLaws.{upTo-in}
 use Rattle.recognisers.specs.Threshold.{Thresholds, standardSet, validOf}

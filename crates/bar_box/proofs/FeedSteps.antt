@@ -9,8 +9,7 @@ use native.Mathlib.Nat.{zero-add}
 use borrow.Author.Tests.{not-false, eqb-true, ltb-false, eq-eqb, le-ltb}
 use lib.ListN.{length, take, drop}
 use lib.Seq.{take-at}
-use Rattle.measures.specs.declared.bars.Bar.{Bar}
-use Rattle.measures.specs.Bar.{barsOf}
+use Rattle.measures.specs.Bar.{Bar, barsOf}
 use Rattle.measures.specs.Window.{newest}
 use Rattle.recognisers.specs.Threshold.{Thresholds, validOf}
 use Rattle.recognisers.specs.declared.call.Verdict.{Verdict}

@@ -8,7 +8,7 @@ use native.Mathlib.Omega.{arith}
 use borrow.Author.Tests.{ne-eqb, lt-leb, le-ltb}
 use lib.ListN.{length, take}
 use lib.Seq.{take-length}
-use Rattle.measures.specs.declared.bars.Bar.{Bar}
+use Rattle.measures.specs.Bar.{Bar}
 use Rattle.measures.specs.Window.{upTo, windowOf}
 use Rattle.measures.proofs.WindowLaws.{upTo-one}
 use Rattle.recognisers.specs.Threshold.{Thresholds, validOf}

@@ -8,8 +8,7 @@ use native.Mathlib.Numerals.{add-one}
 use lib.ListN.{length, getD, take, set, length-append}
 use lib.Seq.{take-suc, length-take-le}
 use lib.Ieee.{Float}
-use Rattle.measures.specs.declared.bars.Bar.{Bar}
-use Rattle.measures.specs.Bar.{noBar, barsOf}
+use Rattle.measures.specs.Bar.{Bar, noBar, barsOf}
 use Rattle.bar_box.specs.Sheet.{overlay}
 use Rattle.bar_box.specs.History.{pricesOf}
 use Rattle.bar_box.proofs.Overlay.{overlay-next}

@@ -7,7 +7,7 @@ use native.Mathlib.Omega.{arith}
 use native.Mathlib.Nat.{add-zero}
 use lib.ListN.{length, length-append, length-drop}
 use lib.Seq.{drop-append-le, drop-drop}
-use Rattle.measures.specs.declared.bars.Bar.{Bar}
+use Rattle.measures.specs.Bar.{Bar}
 use Rattle.measures.specs.Window.{newest}
 use Rattle.measures.proofs.WindowLaws.{window-reach}
 use Rattle.recognisers.specs.Label.{Pair}

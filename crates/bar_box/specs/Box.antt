@@ -4,9 +4,8 @@ use mathlib.Core.List.{List, [], _∷_, _++_}
 use lib.Dec.{eqb}
 use lib.ListN.{length, take, drop, replicate}
 use lib.Ieee.{Float}
-use Rattle.measures.specs.declared.bars.Bar.{Bar}
+use Rattle.measures.specs.Bar.{Bar, barOf, barsOf}
 use Rattle.measures.specs.Price.{zero}
-use Rattle.measures.specs.Bar.{barOf, barsOf}
 use Rattle.measures.specs.Window.{newest}
 use Rattle.recognisers.specs.Threshold.{Thresholds, standardSet}
 use Rattle.recognisers.specs.declared.call.Verdict.{Verdict}

@@ -6,8 +6,7 @@ use mathlib.Core.Bool.{true, cond}
 use mathlib.Core.List.{List, [], _∷_, _++_}
 use lib.ListN.{length, take, drop, replicate}
 use lib.Ieee.{Float}
-use Rattle.measures.specs.declared.bars.Bar.{Bar}
-use Rattle.measures.specs.Bar.{barsOf}
+use Rattle.measures.specs.Bar.{Bar, barsOf}
 use Rattle.measures.specs.Window.{newest}
 use Rattle.recognisers.specs.Threshold.{Thresholds, standardSet, validOf}
 use Rattle.recognisers.specs.declared.call.Verdict.{Verdict}

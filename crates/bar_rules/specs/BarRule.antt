@@ -4,9 +4,8 @@ use mathlib.Core.Bool.{Bool, cond, _&&_, _||_}
 use mathlib.Core.List.{List, [], _∷_}
 use lib.Dec.{ltb}
 use lib.Ieee.{Float, binary64, add, mul, div, sub, lt, le}
-use Rattle.measures.specs.declared.bars.Bar.{Bar}
+use Rattle.measures.specs.Bar.{Bar, bodyOf, upperOf, lowerOf}
 use Rattle.measures.specs.Price.{maxOf, minOf, absOf}
-use Rattle.measures.specs.Bar.{bodyOf, upperOf, lowerOf}
 use Rattle.measures.specs.Window.{windowOf}
 use Rattle.measures.specs.Fold.{extremesOf, quarterGap, varianceOf}
 use Rattle.rule_types.specs.declared.label.Label.the-variants.{Other, Any, Met, RisingThreeMethods, FallingThreeMethods, Bearish, Bullish, Bottom, Top, StandardBody, Regular, Strong, HalfStrong, GapUp, GapDown}

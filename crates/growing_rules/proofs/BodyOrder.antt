@@ -4,8 +4,7 @@ use mathlib.Core.Path.{_≡_, refl}
 use mathlib.Core.Bool.{Bool, true, false, cond}
 use mathlib.Core.List.{List, [], _∷_, map, reverse, reverseAux, reverse-perm, Perm, Perm·refl, Perm·cons, Perm·swap, Perm·trans}
 use lib.Ieee.{Float, lt}
-use Rattle.measures.specs.declared.bars.Bar.{Bar}
-use Rattle.measures.specs.Bar.{bodyOf}
+use Rattle.measures.specs.Bar.{Bar, bodyOf}
 use Rattle.measures.proofs.Order.{lt-asym}
 use Rattle.growing_rules.specs.GrowingRule.{insertOf, bodiesDown, bodiesUp}
 

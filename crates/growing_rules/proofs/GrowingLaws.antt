@@ -9,8 +9,7 @@ use borrow.Author.Tests.{eq-eqb, ne-eqb}
 use lib.Dec.{eqb}
 use lib.ListN.{getD}
 use lib.Ieee.{Float, nan, lt}
-use Rattle.measures.specs.declared.bars.Bar.{Bar}
-use Rattle.measures.specs.Bar.{bodyOf}
+use Rattle.measures.specs.Bar.{Bar, bodyOf}
 use Rattle.measures.specs.Window.{newest, windowOf}
 use Rattle.measures.proofs.WindowLaws.{window-reach}
 use Rattle.measures.proofs.Order.{lt-nan}

@@ -9,10 +9,9 @@ use borrow.Author.Tests.{ltb-false}
 use lib.Dec.{ltb}
 use lib.ListN.{length, getD}
 use lib.Ieee.{Float, lt}
-use Rattle.measures.specs.declared.bars.Bar.{Bar}
+use Rattle.measures.specs.Bar.{Bar, noBar}
 use Rattle.measures.specs.declared.folds.Column.the-variants.{Close, High, Low}
 use Rattle.measures.specs.Price.{maxOf, minOf}
-use Rattle.measures.specs.Bar.{noBar}
 use Rattle.measures.specs.Window.{windowOf, backOf}
 use Rattle.measures.specs.Fold.{columnOf, highestOf, lowestOf, everyOf}
 use Rattle.measures.proofs.Order.{lt-asym, known-left, known-right, max-second, min-second, max-under, min-over, both-ways}

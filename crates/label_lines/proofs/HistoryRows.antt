@@ -7,8 +7,7 @@ use native.Mathlib.Omega.{arith}
 use borrow.Author.Tests.{ltb-true, ltb-false, lt-ltb}
 use lib.Dec.{ltb}
 use lib.ListN.{length, replicate, length-append}
-use Rattle.measures.specs.declared.bars.Bar.{Bar}
-use Rattle.measures.specs.Bar.{barsOf}
+use Rattle.measures.specs.Bar.{Bar, barsOf}
 use Rattle.measures.specs.Window.{newest}
 use Rattle.recognisers.specs.declared.call.Refusal.the-variants.{TooManyBars, BadLine}
 use Rattle.recognisers.specs.declared.call.Verdict.the-variants.{Accepted, Denied}

@@ -4,7 +4,7 @@ use mathlib.Core.Bool.{cond}
 use mathlib.Core.List.{List, [], _∷_, _++_}
 use lib.Dec.{ltb}
 use lib.ListN.{length}
-use Rattle.measures.specs.declared.bars.Bar.{Bar}
+use Rattle.measures.specs.Bar.{Bar}
 use Rattle.recognisers.specs.declared.call.Refusal.the-variants.{TooManyBars, BadLine}
 use Rattle.recognisers.specs.Number.{mostBars}
 use Rattle.recognisers.specs.Threshold.{standardSet}

@@ -7,10 +7,10 @@ use mathlib.Core.List.{List, [], _∷_, foldl}
 use native.Mathlib.Omega.{arith}
 use lib.ListN.{length, getD, drop}
 use lib.Ieee.{Float, nan, inf, fin, lt, isNan}
-use Rattle.measures.specs.declared.bars.Bar.{Bar}
+use Rattle.prices.specs.declared.bars.Bar.{Bar}
 use Rattle.measures.specs.declared.folds.Column.{Column}
 use Rattle.prices.specs.Price.{maxOf, minOf}
-use Rattle.measures.specs.Bar.{noBar}
+use Rattle.prices.specs.Bar.{noBar}
 use Rattle.measures.specs.Fold.{priceOf, columnOf, highestOf, lowestOf, everyOf}
 use Rattle.prices.proofs.Order.{max-assoc, min-assoc, max-known, min-known, max-under, min-over, max-second, min-second}
 use Rattle.measures.proofs.RunLaws.{from-bar, past-bars}

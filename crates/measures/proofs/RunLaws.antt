@@ -8,8 +8,8 @@ use native.Mathlib.Numerals.{add-one, unary-clauses}
 use lib.ListN.{length, getD, take, drop, drop-of-length-le}
 use lib.Seq.{drop-cons, drop-nil, take-nil, take-length, take-all}
 use lib.Ieee.{Float}
-use Rattle.measures.specs.declared.bars.Bar.{Bar}
-use Rattle.measures.specs.Bar.{barOf, barFrom, noBar, barsOf}
+use Rattle.prices.specs.declared.bars.Bar.{Bar}
+use Rattle.prices.specs.Bar.{barOf, barFrom, noBar, barsOf}
 use Rattle.measures.specs.Window.{pricesFrom}
 
 four-more : (n : ℕ) → suc n * 4 ≡ suc (suc (suc (suc (n * 4))))

@@ -11,8 +11,8 @@ use lib.ListN.{length, take, drop, length-drop}
 use lib.Seq.{take-length, take-add, drop-at, drop-drop, getD-take, getD-drop, length-take-le}
 use lib.Ieee.{Float}
 use borrow.Author.Tests.{eqb-false, ltb-true, ltb-false, leb-true, leb-false, eq-eqb, ne-eqb, lt-ltb, le-ltb}
-use Rattle.measures.specs.declared.bars.Bar.{Bar}
-use Rattle.measures.specs.Bar.{noBar, barsOf}
+use Rattle.prices.specs.declared.bars.Bar.{Bar}
+use Rattle.prices.specs.Bar.{noBar, barsOf}
 use Rattle.measures.specs.Window.{upTo, newest, windowOf, backOf, partOf}
 use Rattle.measures.proofs.RunLaws.{length-bars, bars-part, from-bar, past-bars}
 

@@ -4,7 +4,7 @@ use mathlib.Core.List.{List, [], _∷_, foldl, map}
 use lib.IntN.{pos}
 use lib.ListN.{length}
 use lib.Ieee.{Float, binary64, inf, ofInt, add, sub, mul, div, lt, le}
-use Rattle.measures.specs.declared.bars.Bar.{Bar}
+use Rattle.prices.specs.declared.bars.Bar.{Bar}
 use Rattle.measures.specs.declared.folds.Column.{Column}
 use Rattle.measures.specs.declared.folds.Column.the-variants.{Open, Close, High, Low}
 use Rattle.measures.specs.declared.folds.Fold.{Fold}

@@ -5,8 +5,8 @@ use mathlib.Core.List.{List, []}
 use lib.Dec.{ltb, eqb}
 use lib.ListN.{length, getD, take, drop}
 use lib.Ieee.{Float}
-use Rattle.measures.specs.declared.bars.Bar.{Bar}
-use Rattle.measures.specs.Bar.{noBar}
+use Rattle.prices.specs.declared.bars.Bar.{Bar}
+use Rattle.prices.specs.Bar.{noBar}
 
 -- p = len − di + 1 counts the bars up to the judged one; it is 0 if di exceeds len, and of an offset of 0, which judges no bar
 unfoldable pub upTo : ℕ → ℕ → ℕ

@@ -1,11 +1,11 @@
 // Measures of a window of bars: folds from its oldest bar, the variance, the quarter.
 ghost use mathlib.Core.Path.{_≡_};
 ghost use mathlib.Core.List.{[], _∷_, foldl};
-ghost use Rattle.measures.specs.Bar.{barsOf};
+ghost use Rattle.prices.specs.Bar.{barsOf};
 ghost use Rattle.measures.specs.Fold.{priceOf, columnOf, stepOf, highestOf, lowestOf, sizeOf, meanOf, varianceOf, testOf, everyOf, extremesOf, lowSide, highSide};
-use crate::bars::Bar;
 use crate::windows::bar_at;
 use crate::windows::count;
+use prices::bars::Bar;
 use prices::price;
 
 // A price of a bar.

@@ -1,15 +1,9 @@
 // Measures of one bar and of a window of bars. A bar is four f64 prices; a run of bars is lent as prices, four to a bar: open,
 // close, high, low. All is proved, nothing is assumed, and no public function has a `requires`: each contract is an equation
 // with a definition of specs/, for every input, NaN, infinities and signs of zero included.
-pub mod bars;
 pub mod folds;
 pub mod windows;
 
-pub use bars::Bar;
-pub use bars::body;
-pub use bars::is_doji;
-pub use bars::lower;
-pub use bars::upper;
 pub use folds::Column;
 pub use folds::Extremes;
 pub use folds::Test;
@@ -21,6 +15,12 @@ pub use folds::in_low_side;
 pub use folds::lowest;
 pub use folds::pair_variance;
 pub use folds::variance;
+pub use prices::bars;
+pub use prices::bars::Bar;
+pub use prices::bars::body;
+pub use prices::bars::is_doji;
+pub use prices::bars::lower;
+pub use prices::bars::upper;
 pub use prices::price;
 pub use prices::price::abs;
 pub use prices::price::is_nan;

@@ -3,9 +3,9 @@ ghost use mathlib.Core.Path.{_≡_};
 ghost use Prim.Native.Nat as Nat;
 ghost use Prim.Native.Nat.{_+_, _-_, _<_, _≤_};
 ghost use lib.ListN.{length, getD, take};
-ghost use Rattle.measures.specs.Bar.{barFrom, barsOf, noBar};
+ghost use Rattle.prices.specs.Bar.{barFrom, barsOf, noBar};
 ghost use Rattle.measures.specs.Window.{upTo, backOf, windowOf, pricesFrom, windowPrices, partOf};
-use crate::bars::Bar;
+use prices::bars::Bar;
 use prices::price;
 
 // How many bars a run of prices has.

@@ -4,10 +4,9 @@ use mathlib.Core.Bool.{Bool, cond, _&&_, _||_}
 use mathlib.Core.List.{List}
 use lib.IntN.{pos}
 use lib.Ieee.{Float, binary64, ofInt, toUnsigned, eq, ne, mul, div, sub, lt, le, neg}
-use Rattle.measures.specs.declared.bars.Bar.{Bar}
+use Rattle.measures.specs.Bar.{Bar, bodyOf, upperOf, lowerOf}
 use Rattle.measures.specs.declared.folds.Extremes.{Extremes}
 use Rattle.measures.specs.Price.{zero, absOf}
-use Rattle.measures.specs.Bar.{bodyOf, upperOf, lowerOf}
 use Rattle.measures.specs.Window.{windowOf, backOf}
 use Rattle.measures.specs.Fold.{extremesOf, lowSide, highSide}
 use Rattle.rule_types.specs.declared.label.Label.the-variants.{Other, Any, Met, Hammer, HangingMan, BullishEngulfing, BearishEngulfing, FallingSeparatingLines, RisingSeparatingLines, ArrowOnString, CandleInWind, BullishCounterattack, BearishCounterattack}

@@ -5,8 +5,7 @@ use mathlib.Core.List.{List, [], _∷_}
 use lib.Dec.{ltb, leb, eqb}
 use lib.ListN.{length}
 use lib.Ieee.{Float}
-use Rattle.measures.specs.declared.bars.Bar.{Bar}
-use Rattle.measures.specs.Bar.{barsOf}
+use Rattle.measures.specs.Bar.{Bar, barsOf}
 use Rattle.rule_table.specs.declared.thresholds.Thresholds.{Thresholds}
 use Rattle.recognisers.specs.declared.call.Refusal.{Refusal}
 use Rattle.recognisers.specs.declared.call.Refusal.the-variants.{UnknownRecogniser, ZeroOffset, BadThreshold, BrokenBars, TooManyBars, ShortSheet, FarLook, BadLine}

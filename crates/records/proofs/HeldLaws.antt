@@ -9,8 +9,7 @@ use lib.Dec.{eqb}
 use lib.ListN.{length, getD, set, take, drop, length-append}
 use lib.Seq.{sets, sets-eq, take-at, length-take-le}
 use lib.Ieee.{Float}
-use Rattle.measures.specs.declared.bars.Bar.{Bar}
-use Rattle.measures.specs.Bar.{barOf, noBar, barsOf}
+use Rattle.measures.specs.Bar.{Bar, barOf, noBar, barsOf}
 use Rattle.measures.specs.Window.{upTo, windowOf}
 use Rattle.measures.proofs.RunLaws.{from-bar}
 use Rattle.measures.proofs.WindowLaws.{window-part}

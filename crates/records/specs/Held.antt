@@ -2,8 +2,7 @@
 use Prim.Native.Nat.{_*_}
 use mathlib.Core.List.{List}
 use lib.ListN.{take}
-use Rattle.measures.specs.declared.bars.Bar.{Bar}
-use Rattle.measures.specs.Bar.{barsOf}
+use Rattle.measures.specs.Bar.{Bar, barsOf}
 use Rattle.records.specs.declared.Window.{Window}
 
 unfoldable pub barsIn : Window → List Bar

@@ -6,9 +6,8 @@ use mathlib.Core.List.{List, [], _∷_, _++_}
 use lib.ListN.{length}
 use lib.Count.{trailingZeros}
 use lib.Ieee.{binary64, ofInt, ofBits, ofFields, toUnsigned, round, size, span, climb, units, odd, lt, eq, le, ne, add, sub, mul, div, sum, neg, isNan}
-use Rattle.measures.specs.declared.bars.Bar.{Bar}
+use Rattle.measures.specs.Bar.{Bar, barOf, bodyOf, upperOf, lowerOf, dojiOf}
 use Rattle.measures.specs.Price.{maxOf, minOf, absOf, squareOf}
-use Rattle.measures.specs.Bar.{barOf, bodyOf, upperOf, lowerOf, dojiOf}
 use Rattle.measures.specs.Window.{upTo, newest, windowOf, backOf}
 use Rattle.measures.specs.Fold.{columnOf, highestOf, lowestOf, sumOf, sizeOf, meanOf, varianceOf, everyOf, extremesOf}
 use Rattle.rule_types.specs.declared.label.Label.the-variants.{Other, Any, Met, RisingThreeMethods, Bars5, Bearish, Bottom, Top, Regular}

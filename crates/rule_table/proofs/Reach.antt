@@ -9,7 +9,7 @@ use native.Mathlib.Omega.{arith}
 use borrow.Author.Tests.{ne-eqb, lt-ltb, le-ltb, ltb-true, ltb-false, leb-true, leb-false, le-leb, lt-leb}
 use lib.Dec.{ltb, leb}
 use lib.ListN.{length, take}
-use Rattle.measures.specs.declared.bars.Bar.{Bar}
+use Rattle.measures.specs.Bar.{Bar}
 use Rattle.measures.specs.Window.{upTo, newest, windowOf}
 use Rattle.measures.proofs.WindowLaws.{window-reach, window-again, length-window, upTo-one, newest-again, back-newest}
 use Rattle.rule_types.specs.declared.label.Pair.{Pair}

@@ -11,7 +11,7 @@ use borrow.Author.Tests.{leb-true, eqb-false, ne-eqb, le-ltb}
 use lib.Dec.{eqb, ltb, leb}
 use lib.ListN.{length, getD, take, drop, set, take-append-drop, List·getD-eq-default}
 use lib.Seq.{drop-cons, set-at, take-suc, length-take-le}
-use Rattle.measures.specs.declared.bars.Bar.{Bar}
+use Rattle.measures.specs.Bar.{Bar}
 use Rattle.measures.specs.Window.{windowOf}
 use Rattle.rule_types.specs.declared.label.Pair.{Pair}
 use Rattle.rule_table.specs.declared.thresholds.Thresholds.{Thresholds}

@@ -4,9 +4,8 @@ use mathlib.Core.Bool.{Bool, cond, _&&_, _||_}
 use mathlib.Core.List.{List, [], _∷_}
 use lib.Dec.{leb}
 use lib.Ieee.{Float, binary64, add, eq, mul, lt}
-use Rattle.measures.specs.declared.bars.Bar.{Bar}
+use Rattle.measures.specs.Bar.{Bar, bodyOf, upperOf, lowerOf, dojiOf}
 use Rattle.measures.specs.Price.{zero, maxOf, minOf}
-use Rattle.measures.specs.Bar.{bodyOf, upperOf, lowerOf, dojiOf}
 use Rattle.rule_types.specs.declared.label.Label.{Label}
 use Rattle.rule_types.specs.declared.label.Label.the-variants.{Other, Any, Met, MorningStar, EveningStar, MiddleDoji, DragonflyDoji, GravestoneDoji, LongLeggedDoji, CommonDoji, Northern}
 use Rattle.rule_types.specs.declared.label.Pair.{Pair}

@@ -48,15 +48,14 @@ use denote.Triple.Spec.{Meets, tripleOf}
 use denote.Triple.Table.{entered}
 use denote.Triple.Walked.{says, needs, Stays, stay-none-slice, stay-none, walkOf, goes-none-slice, goes-none, Walks, ends-at, walked, walk-meets}
 use denote.Exit.{yes}
-use Rattle.measures.specs.declared.bars.Bar.{Bar}
-use Rattle.measures.specs.Bar.{noBar}
+use Rattle.measures.specs.Bar.{Bar, noBar}
 use Rattle.recognisers.specs.Number.{reachBars}
 use Rattle.records.specs.declared.Window.{Window}
 use Rattle.records.specs.Held.{barsIn}
 use Rattle.records.proofs.HeldLaws.{Left, left-more, left-none, withBar, bar-more}
 use Rattle.records.proofs.Walk.{own, own-usize, price-put}
-use Rattle.measures.proofs.bars.Bar as T
-use Rattle.measures.proofs.bars.Bar.Laws as T′
+use Rattle.prices.proofs.bars.Bar as T
+use Rattle.prices.proofs.bars.Bar.Laws as T′
 use Rattle.records.proofs.Window as N
 use Rattle.records.proofs.Window.Laws as N′
 use Rattle.records.proofs.gathered.Key.{name as #records·gathered}

@@ -38,13 +38,13 @@ use denote.Triple.Statement.{Contract, Triple}
 use denote.Triple.Table.{entered, cited}
 use denote.Triple.Walked.{says, Stay, Stays, stay-none-slice, stay-none, walkOf, goes-none-slice, goes-none, Goes, Walks, ends-at, walked, walk-meets}
 use denote.Exit.{yes}
-use Rattle.measures.specs.declared.bars.Bar.{Bar}
+use Rattle.measures.specs.Bar.{Bar}
 use Rattle.recognisers.specs.Threshold.{Thresholds, thresholdsOf}
 use Rattle.recognisers.specs.declared.call.Answer.{Answer}
 use Rattle.recognisers.specs.Refusal.{plainAnswer}
 use Rattle.recognisers.specs.Export.{resultOf}
 use Rattle.records.proofs.Walk.{own, own-u32, own-f64, past}
-use Rattle.measures.proofs.bars.Bar as T
+use Rattle.prices.proofs.bars.Bar as T
 use Rattle.rule_table.proofs.thresholds.Thresholds as S
 use Rattle.rule_table.proofs.thresholds.Thresholds.Laws as S′
 use Rattle.recognisers.proofs.call.Answer as R

@@ -40,7 +40,7 @@ use denote.Triple.Statement.{Contract, Triple}
 use denote.Triple.Table.{entered, cited}
 use denote.Triple.Walked.{says, Stays, stay-none-slice, stay-none, walkOf, goes-none-slice, goes-none, Walks, ends-at, walked, walk-meets}
 use denote.Exit.{yes}
-use Rattle.measures.specs.declared.bars.Bar.{Bar}
+use Rattle.measures.specs.Bar.{Bar}
 use Rattle.measures.specs.Window.{upTo, windowOf}
 use Rattle.recognisers.specs.Threshold.{Thresholds}
 use Rattle.recognisers.specs.declared.call.Answer.{Answer}
@@ -52,7 +52,7 @@ use Rattle.records.specs.declared.Window.{Window}
 use Rattle.records.specs.Held.{barsIn}
 use Rattle.records.proofs.HeldLaws.{answer-held}
 use Rattle.records.proofs.Walk.{own, own-u32, own-usize}
-use Rattle.measures.proofs.bars.Bar as T
+use Rattle.prices.proofs.bars.Bar as T
 use Rattle.rule_table.proofs.thresholds.Thresholds as S
 use Rattle.rule_table.proofs.thresholds.Thresholds.Laws as S′
 use Rattle.recognisers.proofs.call.Answer as R

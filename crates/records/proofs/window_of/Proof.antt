@@ -38,7 +38,7 @@ use denote.Triple.Statement.{Contract, Triple}
 use denote.Triple.Table.{entered, cited}
 use denote.Triple.Walked.{says, needs, Stays, stay-none-slice, stay-none, walkOf, goes-none-slice, goes-none, Walks, ends-at, walked, walk-meets}
 use denote.Exit.{yes}
-use Rattle.measures.specs.declared.bars.Bar.{Bar}
+use Rattle.measures.specs.Bar.{Bar}
 use Rattle.measures.specs.Window.{upTo, windowOf}
 use Rattle.measures.proofs.WindowLaws.{upTo-le}
 use Rattle.recognisers.specs.Number.{reachBars}
@@ -47,7 +47,7 @@ use Rattle.records.specs.declared.Window.{Window}
 use Rattle.records.specs.Held.{barsIn}
 use Rattle.records.proofs.HeldLaws.{window-gathered}
 use Rattle.records.proofs.Walk.{own, own-usize}
-use Rattle.measures.proofs.bars.Bar as T
+use Rattle.prices.proofs.bars.Bar as T
 use Rattle.records.proofs.Span as S
 use Rattle.records.proofs.Span.Laws as S′
 use Rattle.records.proofs.Window as N

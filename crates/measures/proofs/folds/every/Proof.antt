@@ -4,7 +4,7 @@ use mathlib.Core.Path.{_≡_, refl, sym, _∙_}
 use mathlib.Core.Bool.{_&&_}
 use native.Mathlib.Omega.{arith}
 use lib.ListN.{length, drop}
-use Rattle.measures.specs.Bar.{barsOf}
+use Rattle.prices.specs.Bar.{barsOf}
 use Rattle.measures.specs.Fold.{columnOf, everyOf, testOf}
 use Rattle.measures.proofs.FoldLaws.{test-turn, test-turned}
 use Rattle.measures.proofs.folds.every.Statement.{statement}

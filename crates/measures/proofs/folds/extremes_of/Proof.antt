@@ -9,7 +9,7 @@ use lib.Ieee.{inf, isNan}
 use lib.ListN.{length, drop, getD}
 use Rattle.measures.specs.declared.folds.Column.the-variants.{High, Low}
 use Rattle.prices.specs.Price.{maxOf, minOf}
-use Rattle.measures.specs.Bar.{barsOf, noBar}
+use Rattle.prices.specs.Bar.{barsOf, noBar}
 use Rattle.measures.specs.Fold.{columnOf, highestOf, lowestOf, extremesOf}
 use Rattle.prices.proofs.Order.{max-stays-known, min-stays-known}
 use Rattle.measures.proofs.FoldLaws.{turn, turned, max-of-known, min-of-known}

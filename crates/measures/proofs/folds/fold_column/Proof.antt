@@ -4,7 +4,7 @@ use mathlib.Core.Path.{_≡_, refl, sym, _∙_}
 use mathlib.Core.List.{foldl}
 use native.Mathlib.Omega.{arith}
 use lib.ListN.{length, drop}
-use Rattle.measures.specs.Bar.{barsOf}
+use Rattle.prices.specs.Bar.{barsOf}
 use Rattle.measures.specs.Fold.{stepOf, columnOf}
 use Rattle.measures.proofs.FoldLaws.{turn, turned}
 use Rattle.measures.proofs.folds.fold_column.Statement.{statement}

@@ -1,7 +1,7 @@
 -- Past the end getD gives the default.
 use Prim.Native.Nat.{_≤_}
 use lib.ListN.{length, List·getD-eq-default}
-use Rattle.measures.specs.Bar.{barsOf, noBar}
+use Rattle.prices.specs.Bar.{barsOf, noBar}
 use native.Mathlib.Omega.{arith}
 use mathlib.Core.Path.{_∙_, sym}
 use borrow.Author.Needs.{needs}

@@ -3,7 +3,7 @@ use Prim.Native.Nat.{_-_, min}
 use mathlib.Core.Path.{_≡_, refl, _∙_}
 use native.Mathlib.Omega.{arith}
 use lib.ListN.{length}
-use Rattle.measures.specs.Bar.{barsOf}
+use Rattle.prices.specs.Bar.{barsOf}
 use Rattle.measures.proofs.RunLaws.{bars-part, take-least}
 use Rattle.measures.proofs.windows.first_bars.Statement.{statement}
 use Rattle.measures.proofs.windows.first_bars.Tie as tie

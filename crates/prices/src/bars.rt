@@ -1,7 +1,7 @@
 // One bar and its measures.
 ghost use mathlib.Core.Path.{_≡_};
-ghost use Rattle.measures.specs.Bar.{bodyOf, upperOf, lowerOf, dojiOf};
-use prices::price;
+ghost use Rattle.prices.specs.Bar.{bodyOf, upperOf, lowerOf, dojiOf};
+use crate::price;
 
 // A host program lends bars in this layout.
 #[repr(C)]

@@ -1,7 +1,7 @@
 -- The code is the definition.
-use Rattle.measures.specs.Bar.{dojiOf}
-use Rattle.measures.proofs.bars.is_doji.Statement.{statement}
-use Rattle.measures.proofs.bars.is_doji.Tie as tie
+use Rattle.prices.specs.Bar.{dojiOf}
+use Rattle.prices.proofs.bars.is_doji.Statement.{statement}
+use Rattle.prices.proofs.bars.is_doji.Tie as tie
 
 returns : tie.Need-returns
 unfolding dojiOf

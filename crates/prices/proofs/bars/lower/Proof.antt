@@ -1,6 +1,6 @@
-use Rattle.measures.specs.Bar.{lowerOf}
-use Rattle.measures.proofs.bars.lower.Statement.{statement}
-use Rattle.measures.proofs.bars.lower.Tie as tie
+use Rattle.prices.specs.Bar.{lowerOf}
+use Rattle.prices.proofs.bars.lower.Statement.{statement}
+use Rattle.prices.proofs.bars.lower.Tie as tie
 
 returns : tie.Need-returns
 unfolding lowerOf

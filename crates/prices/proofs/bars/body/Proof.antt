@@ -1,6 +1,6 @@
-use Rattle.measures.specs.Bar.{bodyOf}
-use Rattle.measures.proofs.bars.body.Statement.{statement}
-use Rattle.measures.proofs.bars.body.Tie as tie
+use Rattle.prices.specs.Bar.{bodyOf}
+use Rattle.prices.proofs.bars.body.Statement.{statement}
+use Rattle.prices.proofs.bars.body.Tie as tie
 
 returns : tie.Need-returns
 unfolding bodyOf

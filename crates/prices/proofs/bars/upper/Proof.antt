@@ -1,6 +1,6 @@
-use Rattle.measures.specs.Bar.{upperOf}
-use Rattle.measures.proofs.bars.upper.Statement.{statement}
-use Rattle.measures.proofs.bars.upper.Tie as tie
+use Rattle.prices.specs.Bar.{upperOf}
+use Rattle.prices.proofs.bars.upper.Statement.{statement}
+use Rattle.prices.proofs.bars.upper.Tie as tie
 
 returns : tie.Need-returns
 unfolding upperOf
