@@ -11,6 +11,7 @@ use borrow.Author.Tests.{leb-true, eqb-false, ne-eqb, le-ltb}
 use lib.Dec.{eqb, ltb, leb}
 use lib.ListN.{length, getD, take, drop, set, take-append-drop, List·getD-eq-default}
 use lib.Seq.{drop-cons, set-at, take-suc, length-take-le}
+use Rattle.rule_types.proofs.ListLaws.{getD-map}
 use Rattle.measures.specs.Bar.{Bar}
 use Rattle.measures.specs.Window.{windowOf}
 use Rattle.rule_types.specs.declared.label.Pair.{Pair}
@@ -25,12 +26,6 @@ unfolding rowOf rows
 past-table k h = List·getD-eq-default rows noRow h
 
 -- ---- the columns of the table
-
--- an element of a mapped list
-pub getD-map : {A B : Type 0} (f : A → B) (xs : List A) (k : ℕ) (d : A) (e : B) → k < length xs → getD (map f xs) k e ≡ f (getD xs k d)
-getD-map f [] k d e h = absurd (not-suc-le-zero h)
-getD-map f (x ∷ xs) zero d e h = refl
-getD-map f (x ∷ xs) (suc k) d e h = getD-map f xs k d e (le-of-suc-le-suc h)
 
 pub from-at : (k : ℕ) → k < recognisers → getD (1 ∷ 2 ∷ 12 ∷ 16 ∷ 5 ∷ 6 ∷ 3 ∷ 2 ∷ 1 ∷ 2 ∷ 2 ∷ 3 ∷ 3 ∷ 11 ∷ 8 ∷ 21 ∷ 7 ∷ 5 ∷ []) k 0 ≡ rowOf k .from
 unfolding rowOf rows

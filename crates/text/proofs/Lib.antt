@@ -1,5 +1,4 @@
--- A theorem about the labels' texts (RoundTrip), and laws that the proofs of several functions, and the crates above, cite.
-pub mod RoundTrip
+-- Laws that the proofs of several functions, and the crates above, cite.
 pub mod RunLaws
 pub mod PartLaws
 pub mod DigitLaws

@@ -8,11 +8,7 @@ use native.Mathlib.Omega.{arith}
 use lib.ListN.{length, getD, take, drop, drop-of-length-le}
 use lib.Seq.{drop-cons}
 use Rattle.text.specs.PriceText.{runOf}
-
--- two tests that are both true
-pub both : (a b : Bool) → (a && b) ≡ true → (a ≡ true) × (b ≡ true)
-both true b e = (refl, e)
-both false b e = absurd (let z : _≡_ {A = ℕ} 0 1 = cc in omega arith)
+pub use Rattle.rule_types.proofs.ListLaws.{both}
 
 -- ---- one byte more, from a place on
 module _ (p : ℕ → Bool) (s : List ℕ) (i : ℕ) where

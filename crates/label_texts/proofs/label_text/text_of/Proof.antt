@@ -3,12 +3,12 @@ use Prim.Native.Nat.{ℕ, _-_, _≤_}
 use mathlib.Core.List.{List, [], _++_}
 use borrow.Author.Needs.{needs}
 use lib.ListN.{length, replicate}
-use Rattle.text.specs.declared.label_text.Text.{Text}
-use Rattle.text.specs.LabelText.{labels, mostBytes, textOf}
-use Rattle.recognisers.proofs.TableLaws.{getD-map}
-use Rattle.text.proofs.LabelLaws.{no-bytes}
-use Rattle.text.proofs.label_text.text_of.Statement.{statement}
-use Rattle.text.proofs.label_text.text_of.Tie as tie
+use Rattle.label_texts.specs.declared.label_text.Text.{Text}
+use Rattle.label_texts.specs.LabelText.{labels, mostBytes, textOf}
+use Rattle.rule_types.proofs.ListLaws.{getD-map}
+use Rattle.label_texts.proofs.LabelLaws.{no-bytes}
+use Rattle.label_texts.proofs.label_text.text_of.Statement.{statement}
+use Rattle.label_texts.proofs.label_text.text_of.Tie as tie
 
 mul-result : tie.Need-mul-result
 mul-result c = search needs

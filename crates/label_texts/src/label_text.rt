@@ -1,7 +1,7 @@
 // Label text: a code's exact UTF-8 bytes, and the code of given bytes.
 ghost use mathlib.Core.Path.{_≡_};
 ghost use Prim.Native.Nat.{_<_};
-ghost use Rattle.text.specs.LabelText.{bytesOf, textOf, same, codeOfBytes, codeOfText};
+ghost use Rattle.label_texts.specs.LabelText.{bytesOf, textOf, same, codeOfBytes, codeOfText};
 
 // The number of labels, which is also the code of bytes that are no label.
 pub const LABELS: u8 = 38;

@@ -1,9 +1,9 @@
 -- The text's bytes without the zeros are the label. Assumes nothing.
 use borrow.Author.Needs.{needs}
-use Rattle.text.specs.LabelText.{bytesOf}
-use Rattle.text.proofs.LabelLaws.{short, text-len, text-length, text-bytes, same-is}
-use Rattle.text.proofs.label_text.is_label.Statement.{statement}
-use Rattle.text.proofs.label_text.is_label.Tie as tie
+use Rattle.label_texts.specs.LabelText.{bytesOf}
+use Rattle.label_texts.proofs.LabelLaws.{short, text-len, text-length, text-bytes, same-is}
+use Rattle.label_texts.proofs.label_text.is_label.Statement.{statement}
+use Rattle.label_texts.proofs.label_text.is_label.Tie as tie
 
 text-of-requires : tie.Need-text-of-requires
 text-of-requires c κs = search needs

@@ -3,10 +3,10 @@ use Prim.Native.Nat.{_≤_, _+_, _-_}
 use mathlib.Core.Path.{_≡_, sym, _∙_}
 use native.Mathlib.Omega.{arith}
 use lib.ListN.{drop}
-use Rattle.text.specs.LabelText.{labels, placeIn, codeOfBytes}
-use Rattle.text.proofs.LabelLaws.{place-here, place-on}
-use Rattle.text.proofs.label_text.code_of_bytes.Statement.{statement}
-use Rattle.text.proofs.label_text.code_of_bytes.Tie as tie
+use Rattle.label_texts.specs.LabelText.{labels, placeIn, codeOfBytes}
+use Rattle.label_texts.proofs.LabelLaws.{place-here, place-on}
+use Rattle.label_texts.proofs.label_text.code_of_bytes.Statement.{statement}
+use Rattle.label_texts.proofs.label_text.code_of_bytes.Tie as tie
 
 abbrev Inv-loop : tie.InvT-loop
 Inv-loop s code₀ code = (code ≤ 38) × (codeOfBytes s ≡ code + placeIn (drop code labels) s)

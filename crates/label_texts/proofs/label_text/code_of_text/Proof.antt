@@ -4,9 +4,9 @@ use native.Mathlib.Omega.{arith}
 use borrow.Author.Tests.{le-leb, lt-leb}
 use borrow.Author.Needs.{needs}
 use lib.ListN.{length, length-map, length-take}
-use Rattle.text.specs.LabelText.{codeOfText}
-use Rattle.text.proofs.label_text.code_of_text.Statement.{statement}
-use Rattle.text.proofs.label_text.code_of_text.Tie as tie
+use Rattle.label_texts.specs.LabelText.{codeOfText}
+use Rattle.label_texts.proofs.label_text.code_of_text.Statement.{statement}
+use Rattle.label_texts.proofs.label_text.code_of_text.Tie as tie
 
 cast-n : tie.Need-cast-n
 cast-n c = search needs

@@ -8,8 +8,8 @@ use native.Mathlib.Omega.{arith}
 use borrow.Author.Tests.{eqb-true, le-leb}
 use lib.Dec.{eqb}
 use lib.ListN.{length, getD}
-use Rattle.text.specs.LabelText.{labels, bytesOf, textOf, same, placeIn, codeOfBytes, codeOfText}
-use Rattle.text.proofs.LabelLaws.{same-eq, every, every-at, no-bytes, short, text-len, text-bytes}
+use Rattle.label_texts.specs.LabelText.{labels, bytesOf, textOf, same, placeIn, codeOfBytes, codeOfText}
+use Rattle.label_texts.proofs.LabelLaws.{same-eq, every, every-at, no-bytes, short, text-len, text-bytes}
 
 -- each label stands at its place, at no place before
 abbrev in-place : ℕ → List ℕ → Bool
