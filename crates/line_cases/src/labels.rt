@@ -1,6 +1,6 @@
 // The labels' texts there and back, and bytes that are no label.
-use crate::printed::Printed;
-use crate::printed::first;
+use crate::print;
+use crate::run::first;
 use text::Text;
 use text::code_of_bytes;
 use text::code_of_text;
@@ -10,13 +10,12 @@ use text::text_of;
 fn write_code(code: u8) {
     let text = text_of(code);
     let bytes = text.bytes;
-    Printed::new()
-        .item(b"code ", code as u64)
-        .text(b": ")
-        .text(first(&bytes, text.len as usize))
-        .item(b",", text.len as u64)
-        .item(b",", code_of_text(text) as u64)
-        .end();
+    print::number(b"code ", code as u64);
+    print::text(b": ");
+    print::text(first(&bytes, text.len as usize));
+    print::number(b",", text.len as u64);
+    print::number(b",", code_of_text(text) as u64);
+    print::text(b"\n");
 }
 
 fn write_codes() {
@@ -29,24 +28,23 @@ fn write_codes() {
 }
 
 fn write_bytes(s: &[u8]) {
-    Printed::new()
-        .text(b"code of ")
-        .text(s)
-        .item(b": ", code_of_bytes(s) as u64)
-        .end();
+    print::text(b"code of ");
+    print::text(s);
+    print::number(b": ", code_of_bytes(s) as u64);
+    print::text(b"\n");
 }
 
 // The text 5K, of which so many bytes count.
 fn write_counted(len: u8) {
     let bytes = *b"5K\0\0\0\0\0\0\0\0\0\0\0\0\0";
-    Printed::new()
-        .item(b"code of 5K with a count of ", len as u64)
-        .item(b": ", code_of_text(Text { bytes, len }) as u64)
-        .end();
+    print::number(b"code of 5K with a count of ", len as u64);
+    print::number(b": ", code_of_text(Text { bytes, len }) as u64);
+    print::text(b"\n");
 }
 
-// Parts of labels, and labels with a byte more.
-fn write_strings() {
+pub fn write() {
+    write_codes();
+    // parts of labels, and labels with a byte more
     write_bytes(b"");
     write_bytes(b"5");
     write_bytes(b"5k");
@@ -57,11 +55,6 @@ fn write_strings() {
     write_bytes(b"\xe5\x85\xb6\xe4\xbb\x96.");
     // 看跌反击线 and a point, more than a text has room for
     write_bytes(b"\xe7\x9c\x8b\xe8\xb7\x8c\xe5\x8f\x8d\xe5\x87\xbb\xe7\xba\xbf.");
-}
-
-pub fn write() {
-    write_codes();
-    write_strings();
     write_counted(2);
     write_counted(3);
     write_counted(16);

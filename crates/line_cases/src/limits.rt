@@ -1,13 +1,25 @@
 // Sessions that a caller filled, and buffers without room, a line each.
-use crate::printed::Printed;
-use crate::run::run;
+use crate::print;
+use crate::run;
+use crate::run::first;
 use bar_box::BarBox;
-use label_lines::Absorbed;
 use label_lines::Session;
 use label_lines::session;
 use measures::Bar;
 use measures::price;
 use recognisers::Thresholds;
+
+// The standard set; a th14 that is above its limit, or a th0 that is no number, makes it a bad one.
+fn thresholds(th14_above: bool, th0_nan: bool) -> Thresholds {
+    let mut t = Thresholds::standard();
+    if th14_above {
+        t.th14 = 1000001;
+    }
+    if th0_nan {
+        t.th0 = price::not_a_number();
+    }
+    t
+}
 
 // A session whose box counts so many bars, all of zeros.
 fn filled(thresholds: Thresholds, count: u32) -> Session {
@@ -27,88 +39,96 @@ fn filled(thresholds: Thresholds, count: u32) -> Session {
     st
 }
 
-fn write_run(name: &[u8], note: &[u8], st: Session, input: &[u8]) {
-    Printed::new()
-        .text(name)
-        .text(note)
-        .text(b":")
-        .lines(run(st, input))
-        .write();
+fn write_filled(th14_above: bool, th0_nan: bool, count: u32, input: &[u8]) {
+    let mut out = io::buffer();
+    let n = run::run(
+        filled(thresholds(th14_above, th0_nan), count),
+        input,
+        &mut out,
+    );
+    run::write(first(&out, n));
 }
 
 // Two good lines to a box that counts so many bars.
-fn write_count(name: &[u8], count: u32) {
-    let st = filled(Thresholds::standard(), count);
-    write_run(name, b"", st, b"10,11,11,7\n10,11,11,7\n");
+fn write_count(count: u32) {
+    print::number(b"", count as u64);
+    print::text(b" bars");
+    write_filled(false, false, count, b"10,11,11,7\n10,11,11,7\n");
 }
 
-// A line is read before it is fed, and the thresholds are judged before the count.
-fn write_bad(name: &[u8], thresholds: Thresholds) {
-    let fresh = filled(thresholds, 0);
-    let full = filled(thresholds, 1000000);
-    write_run(name, b"", fresh, b"10,11,11,7\n10,11,11,7\n");
-    write_run(name, b", bad line", fresh, b"1O,11,11,7\n");
-    write_run(name, b", 1000000 bars", full, b"10,11,11,7\n");
+// Bad thresholds: a line is read before it is fed, and the thresholds are judged before the count.
+fn write_bad(name: &[u8], th14_above: bool, th0_nan: bool) {
+    print::text(name);
+    write_filled(th14_above, th0_nan, 0, b"10,11,11,7\n10,11,11,7\n");
+    print::text(name);
+    print::text(b", bad line");
+    write_filled(th14_above, th0_nan, 0, b"1O,11,11,7\n");
+    print::text(name);
+    print::text(b", 1000000 bars");
+    write_filled(th14_above, th0_nan, 1000000, b"10,11,11,7\n");
 }
 
-fn write_thresholds() {
-    let mut above = Thresholds::standard();
-    above.th14 = 1000001;
-    let mut nan = Thresholds::standard();
-    nan.th0 = price::not_a_number();
-    write_bad(b"th14 1000001", above);
-    write_bad(b"th0 NaN", nan);
+// How many bytes of an input are used and printed, and how many the input's end prints in their place.
+struct Taken {
+    used: usize,
+    printed: usize,
+    ended: usize,
 }
 
-// How many bytes are used and printed, and how many the input's end prints in their place.
-fn write_used(name: &[u8], absorbed: Absorbed, ended: usize) {
-    Printed::new()
-        .text(name)
-        .item(b": used ", absorbed.used as u64)
-        .item(b", printed ", absorbed.written as u64)
-        .item(b", end ", ended as u64)
-        .end();
+fn take(st: Session, input: &[u8], out: &mut [u8]) -> Taken {
+    let ended = session::end(st, out);
+    let absorbed = session::absorb(st, input, out);
+    Taken {
+        used: absorbed.used,
+        printed: absorbed.written,
+        ended,
+    }
 }
 
-// A buffer with a byte less than a line may print: nothing is used.
-fn write_short(st: Session, rest: &[u8]) {
-    let mut out = [0u8; 1331];
-    let absorbed = session::absorb(st, rest, &mut out);
-    let ended = session::end(st, &mut out);
-    write_used(b"1331 bytes", absorbed, ended);
-}
-
-// A buffer with just what a line may print: a line is used at a time.
-fn write_single(st: Session, rest: &[u8]) {
-    let mut out = [0u8; 1332];
-    let absorbed = session::absorb(st, rest, &mut out);
-    let ended = session::end(st, &mut out);
-    write_used(b"1332 bytes", absorbed, ended);
-}
-
-fn write_ample(name: &[u8], st: Session, rest: &[u8]) -> Session {
+// A session that has begun a line.
+fn begun() -> Session {
     let mut out = io::buffer();
-    let absorbed = session::absorb(st, rest, &mut out);
-    let ended = session::end(st, &mut out);
-    write_used(name, absorbed, ended);
+    let absorbed = session::absorb(session::begin(), b"10,11,11,7", &mut out);
     absorbed.session
 }
 
-// The rest is the end of the line that the session has begun, and a line more.
-fn write_rooms(rest: &[u8]) {
-    let st = write_ample(b"begun", session::begin(), b"10,11,11,7");
-    let mut stopped = st;
-    stopped.stopped = true;
-    write_short(st, rest);
-    write_single(st, rest);
-    write_ample(b"4096 bytes", st, rest);
-    write_ample(b"4096 bytes, stopped", stopped, rest);
+// The end of the line that the session has begun, and a line more.
+fn take_begun(stopped: bool, out: &mut [u8]) -> Taken {
+    let mut st = begun();
+    st.stopped = stopped;
+    take(st, b"\n10,11,11,7\n", out)
+}
+
+fn take_line(out: &mut [u8]) -> Taken {
+    take(session::begin(), b"10,11,11,7", out)
+}
+
+fn write_room(name: &[u8], t: Taken) {
+    print::text(name);
+    print::number(b": used ", t.used as u64);
+    print::number(b", printed ", t.printed as u64);
+    print::number(b", end ", t.ended as u64);
+    print::text(b"\n");
+}
+
+fn write_rooms() {
+    // a byte less than a line may print: nothing is used
+    let mut short = [0u8; 1331];
+    // just what a line may print: a line is used at a time
+    let mut single = [0u8; 1332];
+    let mut ample = io::buffer();
+    write_room(b"begun", take_line(&mut ample));
+    write_room(b"1331 bytes", take_begun(false, &mut short));
+    write_room(b"1332 bytes", take_begun(false, &mut single));
+    write_room(b"4096 bytes", take_begun(false, &mut ample));
+    write_room(b"4096 bytes, stopped", take_begun(true, &mut ample));
 }
 
 pub fn write() {
-    write_count(b"999999 bars", 999999);
-    write_count(b"1000000 bars", 1000000);
-    write_count(b"1000001 bars", 1000001);
-    write_thresholds();
-    write_rooms(b"\n10,11,11,7\n");
+    write_count(999999);
+    write_count(1000000);
+    write_count(1000001);
+    write_bad(b"th14 1000001", true, false);
+    write_bad(b"th0 NaN", false, true);
+    write_rooms();
 }

@@ -11,64 +11,55 @@ ghost use lib.ListN.{length};
 
 mod labels;
 mod limits;
-mod printed;
+mod print;
 mod run;
 
-use label_lines::session;
 use libc::STDIN_FILENO;
 use measures::least;
-use printed::Printed;
-use printed::first;
-use printed::is_same;
 use recognisers::call::Verdict;
 use recognisers::call::refusal_number;
-use run::run;
+use run::first;
 use text::Line;
 use text::line_text::line_verdict;
 use text::lines::LINE_FEED;
 use text::lines::piece_end;
 use text::read_line;
 
-// 0, or the number of the refusal.
-fn verdict_number(verdict: Verdict) -> u64 {
+// What a line says.
+fn write_said(line: Line) {
+    let verdict = line_verdict(line);
     match verdict {
-        Verdict::Accepted => 0,
-        Verdict::Denied(why) => refusal_number(why) as u64,
+        Verdict::Accepted => print::text(b":0"),
+        Verdict::Denied(why) => print::number(b":", refusal_number(why) as u64),
     }
-}
-
-// What a line says, behind its case's number.
-fn with_said(name: Printed, line: Line) -> Printed {
-    let judged = name.item(b":", verdict_number(line_verdict(line)));
     match line {
-        Line::Prices(bar) => judged
-            .price(bar.open)
-            .price(bar.close)
-            .price(bar.high)
-            .price(bar.low),
-        Line::BadShape => judged,
-        Line::BadPrice(place) => judged.item(b",", place as u64),
+        Line::Prices(bar) => {
+            print::price(bar.open);
+            print::price(bar.close);
+            print::price(bar.high);
+            print::price(bar.low);
+        }
+        Line::BadShape => {}
+        Line::BadPrice(place) => print::number(b",", place as u64),
     }
 }
 
-// A second line for a case whose session prints something else if a line feed comes behind: an empty line is none at the input's end.
-fn write_fed(name: Printed, ended: Printed, case: &[u8]) {
-    let fed = run(session::begin(), case);
-    if !is_same(ended, fed) {
-        name.text(b", line feed:").lines(fed).write();
-    }
-}
-
-// The case comes with its line feed, unless the input's end cut that off.
+// The case comes with its line feed, unless the input's end cut that off. A second line is written for a case whose session prints
+// something else if the line feed comes behind: an empty line is none at the input's end.
 fn write_case(number: u64, case: &[u8]) {
     let line = first(case, piece_end(LINE_FEED, case));
-    let name = Printed::new().number(number);
-    let ended = run(session::begin(), line);
-    with_said(name, read_line(line))
-        .text(b":")
-        .lines(ended)
-        .write();
-    write_fed(name, ended, case);
+    let mut ended = io::buffer();
+    let n = run::run_fresh(line, &mut ended);
+    let mut fed = io::buffer();
+    let m = run::run_fresh(case, &mut fed);
+    print::number(b"", number);
+    write_said(read_line(line));
+    run::write(first(&ended, n));
+    if !check::same(first(&ended, n), first(&fed, m)) {
+        print::number(b"", number);
+        print::text(b", line feed");
+        run::write(first(&fed, m));
+    }
 }
 
 // Writes the case that begins at a place of the input, and answers the place behind it.
@@ -94,7 +85,7 @@ fn write_cases(input: &[u8]) {
 fn main() {
     let mut input = io::large_buffer();
     let n = io::read_full(STDIN_FILENO, &mut input);
-    write_cases(first(&input, n));
+    write_cases(&input[..n]);
     labels::write();
     limits::write();
 }

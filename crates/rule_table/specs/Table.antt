@@ -99,7 +99,7 @@ unfoldable pub judgeOf : ℕ → Thresholds → ℕ → ℕ → List Bar → Lis
 judgeOf k t len p w gate = cond (ltb p (rowOf k .from)) (rowOf k .short) (ruleOf k t len (leb reachBars p) w gate)
 
 -- the pair at offset di of a history of len bars, of which at least the newest are given: p counts the bars up to the judged one, the
--- window has the last 22 of them, and the gate's 20 bars end third from the newest
+-- window has the last 22 of them, which are all that the rules see (proofs/Reach.antt), and the gate's 20 bars end third from the newest
 unfoldable pub pairAt : ℕ → Thresholds → ℕ → List Bar → ℕ → Pair
 pairAt k t len history di = judgeOf k t len (upTo len di) (windowOf history di reachBars) (windowOf history gateEnd quarterBars)
 
