@@ -1,6 +1,6 @@
 -- "Why a call is refused": the refusals' numbers, when each is true, and the plain call, which tries 1 to 5.
 use Prim.Native.Nat.{ℕ, _*_, _%_}
-use mathlib.Core.Bool.{Bool, cond, not, _||_}
+use mathlib.Core.Bool.{Bool, cond, not, _&&_, _||_}
 use mathlib.Core.List.{List, [], _∷_}
 use lib.Dec.{ltb, leb, eqb}
 use lib.ListN.{length}
@@ -8,7 +8,7 @@ use lib.Ieee.{Float}
 use Rattle.measures.specs.Bar.{Bar, barsOf}
 use Rattle.rule_table.specs.declared.thresholds.Thresholds.{Thresholds}
 use Rattle.recognisers.specs.declared.call.Refusal.{Refusal}
-use Rattle.recognisers.specs.declared.call.Refusal.the-variants.{UnknownRecogniser, ZeroOffset, BadThreshold, BrokenBars, TooManyBars, ShortSheet, FarLook, BadLine}
+use Rattle.recognisers.specs.declared.call.Refusal.the-variants.{UnknownRecogniser, ZeroOffset, BadThreshold, BrokenBars, TooManyBars, ShortSheet, FarLook, BadShape, BadPrice}
 use Rattle.recognisers.specs.declared.call.Verdict.{Verdict}
 use Rattle.recognisers.specs.declared.call.Verdict.the-variants.{Accepted, Denied}
 use Rattle.recognisers.specs.declared.call.Answer.{Answer}
@@ -27,7 +27,8 @@ refusalNumber BrokenBars = 4
 refusalNumber TooManyBars = 5
 refusalNumber ShortSheet = 6
 refusalNumber FarLook = 7
-refusalNumber BadLine = 8
+refusalNumber BadShape = 8
+refusalNumber BadPrice = 9
 
 -- ---- when each is true
 
@@ -67,12 +68,16 @@ shortSheet bytes bars = tried (ltb bytes (rowBytes * bars)) ShortSheet
 abbrev pub farLook : ℕ → Tried
 farLook di = tried (ltb farthestLook di) FarLook
 
--- 8. A text line is longer than 80 bytes or is not four prices.
-abbrev pub badLine : ℕ → Bool → Tried
-badLine bytes fourPrices = tried (ltb longestLine bytes || not fourPrices) BadLine
+-- 8. A text line is longer than 80 bytes or has another number of fields than four.
+abbrev pub badShape : ℕ → ℕ → Tried
+badShape bytes fields = tried (ltb longestLine bytes || not (eqb fields 4)) BadShape
+
+-- 9. A text line of at most 80 bytes has four fields of which at least one is no price.
+abbrev pub badPrice : ℕ → ℕ → Bool → Tried
+badPrice bytes fields allPrices = tried (leb bytes longestLine && eqb fields 4 && not allPrices) BadPrice
 
 -- each call tries those that concern it, in this order, gives the first that is true and none otherwise: a plain call 1 to 5, box-making 3, a feed
--- 3 to 6, a look 1 to 3, 5 and 7, a text line 8
+-- 3 to 6, a look 1 to 3, 5 and 7, a text line 8 and 9
 unfoldable pub firstTrue : List Tried → Verdict
 firstTrue [] = Accepted
 firstTrue (x ∷ xs) = cond (x .met) (Denied (x .why)) (firstTrue xs)

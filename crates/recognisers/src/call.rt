@@ -15,7 +15,8 @@ pub enum Refusal {
     TooManyBars,
     ShortSheet,
     FarLook,
-    BadLine,
+    BadShape,
+    BadPrice,
 }
 
 // Whether a call is refused.
@@ -42,7 +43,8 @@ pub fn refusal_number(r: Refusal) -> u8
         Refusal::TooManyBars => 5,
         Refusal::ShortSheet => 6,
         Refusal::FarLook => 7,
-        Refusal::BadLine => 8,
+        Refusal::BadShape => 8,
+        Refusal::BadPrice => 9,
     }
 }
 

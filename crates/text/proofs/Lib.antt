@@ -4,3 +4,4 @@ pub mod PartLaws
 pub mod DigitLaws
 pub mod LabelLaws
 pub mod LineLaws
+pub mod SameLines

@@ -1,22 +1,24 @@
--- Pieces and lines, one byte or one piece at a time; the bytes of a line that are enough to tell; and refusal 8. Assumes nothing.
+-- Pieces and lines, one byte or one piece at a time; the bytes of a line that are enough to tell; and its verdict. Assumes nothing.
 use Prim.Native.Nat.{ℕ, zero, suc, _+_, _-_, _≤_, _<_}
 use mathlib.Core.Bool.{Bool, true, false, cond, not}
-use mathlib.Core.List.{List, [], _∷_, _++_, append-assoc, append-nil}
+use mathlib.Core.List.{List, [], _∷_, _++_, map, append-assoc, append-nil}
 use mathlib.Core.Path.{_≡_, refl, ap, _∙_}
 use native.Mathlib.Numerals.{add-one}
 use native.Mathlib.Omega.{arith}
-use borrow.Author.Tests.{leb-true, leb-false, le-ltb, lt-ltb, lt-leb, ne-eqb}
+use borrow.Author.Tests.{leb-true, leb-false, le-ltb, lt-ltb, le-leb, ne-eqb}
 use lib.Dec.{eqb, leb}
-use lib.ListN.{length, take, drop, replicate, length-take}
+use lib.ListN.{length, take, drop, replicate, length-take, length-map}
 use lib.Seq.{take-all, take-append-seam}
 use Rattle.recognisers.specs.Number.{longestLine}
-use Rattle.recognisers.specs.Refusal.{badLine, firstTrue}
+use Rattle.recognisers.specs.declared.call.Refusal.the-variants as refusal
+use Rattle.recognisers.specs.declared.call.Verdict.the-variants.{Accepted, Denied}
+use Rattle.recognisers.specs.Refusal.{badShape, badPrice, firstTrue}
 use Rattle.text.specs.declared.lines.Partial.{Partial}
-use Rattle.text.specs.declared.line_text.Line.{Line}
-use Rattle.text.specs.declared.line_text.Line.the-variants.{Prices, BadShape, BadPrice}
-use Rattle.text.specs.PriceText.{runOf}
+use Rattle.text.specs.declared.price_text.Price.{Price}
+use Rattle.text.specs.declared.line_text.Line.the-variants.{BadShape}
+use Rattle.text.specs.PriceText.{runOf, priceOf}
 use Rattle.text.specs.Lines.{lineFeed, piecesFrom, piecesOf, endedLines, linesFrom, linesOf, pieceEnd, keptLine, content, partialOf}
-use Rattle.text.specs.LineText.{comma, fieldsLine, lineOf, verdictOf, isPrices}
+use Rattle.text.specs.LineText.{comma, pricesIn, allPrices, lineVerdict, answerTo, saidOf, lineOf, verdictOf, fieldsLine}
 use Rattle.text.proofs.PartLaws.{to-end}
 
 -- ---- pieces
@@ -103,8 +105,18 @@ lines-first s h =
 
 -- five fields or more
 pub too-many : (o c h l : List ℕ) (rest : List (List ℕ)) → 1 ≤ length rest → BadShape ≡ fieldsLine (o ∷ c ∷ h ∷ l ∷ rest)
-unfolding fieldsLine
-too-many o c h l rest some = rw (ne-eqb (length (o ∷ c ∷ h ∷ l ∷ rest)) 4 (λ e. omega arith))
+unfolding fieldsLine saidOf lineVerdict firstTrue
+too-many o c h l rest some = rw (length-map, ne-eqb (length (o ∷ c ∷ h ∷ l ∷ rest)) 4 (λ e. omega arith))
+
+-- a line that is too long, and one that isn't, whose bytes don't matter further
+module _ (bytes : ℕ) (fields : List Price) where
+  pub too-long : longestLine < bytes → saidOf bytes fields ≡ BadShape
+  unfolding saidOf lineVerdict firstTrue
+  too-long long = rw (lt-ltb longestLine bytes long)
+
+  pub short-enough : bytes ≤ longestLine → saidOf bytes fields ≡ saidOf 0 fields
+  unfolding saidOf lineVerdict firstTrue
+  short-enough short = rw (le-ltb longestLine bytes short, le-leb bytes longestLine short)
 
 -- the kept bytes of a line say what the line says
 pub line-kept : (s : List ℕ) → lineOf (keptLine s) ≡ lineOf s
@@ -116,7 +128,7 @@ line-kept s = go (leb (length s) longestLine) refl
     go false e =
         let long : longestLine < length s = leb-false (length s) longestLine e in
         let kept : longestLine < length (keptLine s) = simp length-take (omega arith) in
-        rw (lt-leb _ _ long, lt-leb _ _ kept)
+        rw (too-long (length s) (pricesIn s) long, too-long (length (keptLine s)) (pricesIn (keptLine s)) kept)
 
 -- what is kept of a line that grows
 take-front : (n : ℕ) (a b : List ℕ) → take n (take n a ++ b) ≡ take n (a ++ b)
@@ -140,14 +152,13 @@ pub partial-fields : (p : Partial) (l : List ℕ) → p ≡ partialOf l → (p .
 unfolding partialOf
 partial-fields p l e = (ap (λ (q : Partial). q .bytes) e, ap (λ (q : Partial). q .len) e)
 
--- a line that is denied is refusal 8
-pub line-refused : (s : List ℕ) → verdictOf (lineOf s) ≡ firstTrue (badLine (length s) (isPrices (fieldsLine (piecesOf comma s))) ∷ [])
-unfolding lineOf firstTrue
-line-refused s = go (leb (length s) longestLine) refl (fieldsLine (piecesOf comma s))
+-- the answer's verdict is the first refusal that is true
+pub said-verdict : (bytes : ℕ) (fields : List Price) → verdictOf (saidOf bytes fields) ≡ lineVerdict bytes fields
+unfolding saidOf lineVerdict firstTrue
+said-verdict bytes fields = go (badShape bytes (length fields) .met) (badPrice bytes (length fields) (allPrices fields) .met)
   where
-    go : (t : Bool) → leb (length s) longestLine ≡ t → (line : Line)
-        → verdictOf (cond t line BadShape) ≡ firstTrue (badLine (length s) (isPrices line) ∷ [])
-    go false e line = rw (lt-ltb longestLine (length s) (leb-false (length s) longestLine e))
-    go true e (Prices bar) = rw (le-ltb longestLine (length s) (leb-true (length s) longestLine e))
-    go true e BadShape = rw (le-ltb longestLine (length s) (leb-true (length s) longestLine e))
-    go true e (BadPrice place) = rw (le-ltb longestLine (length s) (leb-true (length s) longestLine e))
+    go : (a b : Bool) → let verdict = cond a (Denied refusal.BadShape) (cond b (Denied refusal.BadPrice) Accepted) in
+        verdictOf (answerTo verdict fields) ≡ verdict
+    go true b = refl
+    go false true = refl
+    go false false = refl

@@ -2,3 +2,4 @@ pub mod LabelText
 pub mod PriceText
 pub mod LineText
 pub mod Lines
+pub mod SameLines

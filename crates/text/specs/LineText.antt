@@ -1,14 +1,15 @@
--- "The other ways in", text: a line is open,close,high,low; and refusal 8.
-use Prim.Native.Nat.{ℕ}
-use mathlib.Core.Bool.{Bool, true, false, cond}
-use mathlib.Core.List.{List, []}
-use lib.Dec.{eqb, leb}
+-- "The other ways in", text: a line is open,close,high,low; and why a line is refused, by 8 or 9.
+use Prim.Native.Nat.{ℕ, suc}
+use mathlib.Core.Bool.{Bool, true, false, cond, _&&_}
+use mathlib.Core.List.{List, [], _∷_, map}
+use lib.Dec.{eqb}
 use lib.ListN.{length, getD}
+use lib.Ieee.{Float, nan}
 use Rattle.measures.specs.Bar.{barOf}
-use Rattle.recognisers.specs.declared.call.Refusal.the-variants.{BadLine}
+use Rattle.recognisers.specs.declared.call.Refusal.the-variants as refusal
 use Rattle.recognisers.specs.declared.call.Verdict.{Verdict}
 use Rattle.recognisers.specs.declared.call.Verdict.the-variants.{Accepted, Denied}
-use Rattle.recognisers.specs.Number.{longestLine}
+use Rattle.recognisers.specs.Refusal.{refusalNumber, badShape, badPrice, firstTrue}
 use Rattle.text.specs.declared.price_text.Price.{Price}
 use Rattle.text.specs.declared.price_text.Price.the-variants.{Value, Bad}
 use Rattle.text.specs.declared.line_text.Line.{Line}
@@ -16,39 +17,71 @@ use Rattle.text.specs.declared.line_text.Line.the-variants.{Prices, BadS
 use Rattle.text.specs.PriceText.{priceOf}
 use Rattle.text.specs.Lines.{piecesOf}
 
+-- ---- fields
+
 abbrev pub comma : ℕ
 comma = 44
 
--- the bar of four prices, or the place of the leftmost that is none, from 1
-abbrev pub fourOf : Price → Price → Price → Price → Line
-fourOf (Value o) (Value c) (Value h) (Value l) = Prices (barOf o c h l)
-fourOf Bad c h l = BadPrice 1
-fourOf (Value o) Bad h l = BadPrice 2
-fourOf (Value o) (Value c) Bad l = BadPrice 3
-fourOf (Value o) (Value c) (Value h) Bad = BadPrice 4
+-- the fields of a line, with commas between them, each read as a price
+abbrev pub pricesIn : List ℕ → List Price
+pricesIn s = map priceOf (piecesOf comma s)
 
--- the field at a place, from 0, read as a price
-abbrev pub fieldPrice : List (List ℕ) → ℕ → Price
-fieldPrice fields i = priceOf (getD fields i [])
+abbrev pub isPrice : Price → Bool
+isPrice (Value x) = true
+isPrice Bad = false
 
--- fields that are four prices
-unfoldable pub fieldsLine : List (List ℕ) → Line
-fieldsLine fields =
-    cond (eqb (length fields) 4) (fourOf (fieldPrice fields 0) (fieldPrice fields 1) (fieldPrice fields 2) (fieldPrice fields 3)) BadShape
+unfoldable pub allPrices : List Price → Bool
+allPrices [] = true
+allPrices (p ∷ ps) = isPrice p && allPrices ps
 
--- a line: at most 80 bytes, four prices with commas between them
+-- how many prices come before the leftmost field that is none, and its place, from 1
+unfoldable pub pricesBefore : List Price → ℕ
+pricesBefore [] = 0
+pricesBefore (Value x ∷ ps) = suc (pricesBefore ps)
+pricesBefore (Bad ∷ ps) = 0
+
+abbrev pub leftmostBad : List Price → ℕ
+leftmostBad fields = suc (pricesBefore fields)
+
+-- ---- why a line is refused
+
+-- a text line tries 8 and 9: of so many bytes, with these fields
+unfoldable pub lineVerdict : ℕ → List Price → Verdict
+lineVerdict bytes fields = firstTrue (badShape bytes (length fields) ∷ badPrice bytes (length fields) (allPrices fields) ∷ [])
+
+-- ---- what a line says
+
+-- the value of the field at a place, from 0; one that is no price is never asked for
+abbrev pub valueOf : Price → Float
+valueOf (Value x) = x
+valueOf Bad = nan
+
+abbrev pub valueAt : List Price → ℕ → Float
+valueAt fields i = valueOf (getD fields i Bad)
+
+-- the bar; with 9 the place of the leftmost field that is no price; 8 alone
+abbrev pub answerTo : Verdict → List Price → Line
+answerTo Accepted fields = Prices (barOf (valueAt fields 0) (valueAt fields 1) (valueAt fields 2) (valueAt fields 3))
+answerTo (Denied r) fields = cond (eqb (refusalNumber r) 9) (BadPrice (leftmostBad fields)) BadShape
+
+unfoldable pub saidOf : ℕ → List Price → Line
+saidOf bytes fields = answerTo (lineVerdict bytes fields) fields
+
 unfoldable pub lineOf : List ℕ → Line
-lineOf s = cond (leb (length s) longestLine) (fieldsLine (piecesOf comma s)) BadShape
+lineOf s = saidOf (length s) (pricesIn s)
 
--- ---- this paper's number for each answer
+-- ---- this paper's number and values for each answer: none, 8 alone, 9 with the place
 
--- 8. A text line is longer than 80 bytes or is not four prices.
 abbrev pub verdictOf : Line → Verdict
 verdictOf (Prices bar) = Accepted
-verdictOf BadShape = Denied BadLine
-verdictOf (BadPrice place) = Denied BadLine
+verdictOf BadShape = Denied refusal.BadShape
+verdictOf (BadPrice place) = Denied refusal.BadPrice
 
-abbrev pub isPrices : Line → Bool
-isPrices (Prices bar) = true
-isPrices BadShape = false
-isPrices (BadPrice place) = false
+abbrev pub placesIn : Line → List ℕ
+placesIn (Prices bar) = []
+placesIn BadShape = []
+placesIn (BadPrice place) = place ∷ []
+
+-- ---- the code's helper: what fields say in a line that is short enough
+unfoldable pub fieldsLine : List (List ℕ) → Line
+fieldsLine fields = saidOf 0 (map priceOf fields)

@@ -2,7 +2,7 @@
 ghost use mathlib.Core.Path.{_≡_};
 ghost use mathlib.Core.List.{[], _∷_};
 ghost use Rattle.text.specs.Lines.{piecesOf};
-ghost use Rattle.text.specs.LineText.{comma, fourOf, fieldsLine, lineOf, verdictOf};
+ghost use Rattle.text.specs.LineText.{comma, fieldsLine, saidOf, lineOf, verdictOf};
 use crate::lines::piece_end;
 use crate::price_text::Price;
 use crate::price_text::read_price;
@@ -10,8 +10,8 @@ use measures::Bar;
 use recognisers::call::Refusal;
 use recognisers::call::Verdict;
 
-// What a line says: a bar; that it is longer than 80 bytes or has another number of fields than four; or the place, 1 to 4, of the
-// leftmost field that is no price. Both of the latter are refusal 8.
+// What a line says: a bar; that it is longer than 80 bytes or has another number of fields than four, which is refusal 8; or, with
+// refusal 9, the place, 1 to 4, of the leftmost field that is no price.
 pub enum Line {
     Prices(Bar),
     BadShape,
@@ -24,8 +24,9 @@ pub const COMMA: u8 = 44;
 // The longest line.
 const LONGEST: usize = 80;
 
+// The line that has these four fields, read as prices.
 fn four(open: Price, close: Price, high: Price, low: Price) -> Line
-    ensures { λ r. ⌜ r ≡ fourOf «open» close high low ⌝ }
+    ensures { λ r. ⌜ r ≡ saidOf 0 («open» ∷ close ∷ high ∷ low ∷ []) ⌝ }
 {
     let Price::Value(o) = open else {
         return Line::BadPrice(1);
@@ -110,13 +111,13 @@ pub fn read_line(s: &[u8]) -> Line
     }
 }
 
-// Refusal 8, or none.
+// Refusal 8 or 9, or none.
 pub fn line_verdict(line: Line) -> Verdict
     ensures { λ r. ⌜ r ≡ verdictOf line ⌝ }
 {
     match line {
         Line::Prices(_) => Verdict::Accepted,
-        Line::BadShape => Verdict::Denied(Refusal::BadLine),
-        Line::BadPrice(_) => Verdict::Denied(Refusal::BadLine),
+        Line::BadShape => Verdict::Denied(Refusal::BadShape),
+        Line::BadPrice(_) => Verdict::Denied(Refusal::BadPrice),
     }
 }

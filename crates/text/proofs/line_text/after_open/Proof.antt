@@ -2,7 +2,8 @@
 use native.Mathlib.Omega.{arith}
 use borrow.Author.Needs.{needs}
 use lib.ListN.{length-take}
-use Rattle.text.specs.LineText.{comma, fieldsLine}
+use Rattle.recognisers.specs.Refusal.{firstTrue}
+use Rattle.text.specs.LineText.{comma, lineVerdict, saidOf, fieldsLine}
 use Rattle.text.proofs.LineLaws.{pieces-whole, pieces-cut}
 use Rattle.text.proofs.line_text.after_open.Statement.{statement}
 use Rattle.text.proofs.line_text.after_open.Tie as tie
@@ -36,7 +37,7 @@ returns c =
     rw (pieces-cut comma s (piece .piece-end .result) (piece .piece-end .ensures .0) (comma-found .if1 .taken)) (c .after-close .ensures)
 
 returns-2 : tie.Need-returns-2
-unfolding fieldsLine
+unfolding fieldsLine saidOf lineVerdict firstTrue
 returns-2 c =
     let piece = c .before in
     let s = piece .before .before .before .args .s .now in

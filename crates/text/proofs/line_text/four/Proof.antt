@@ -1,5 +1,7 @@
 -- Each price in its turn. Assumes nothing.
 use borrow.Author.Needs.{needs}
+use Rattle.recognisers.specs.Refusal.{firstTrue}
+use Rattle.text.specs.LineText.{allPrices, pricesBefore, lineVerdict, saidOf}
 use Rattle.text.proofs.line_text.four.Statement.{statement}
 use Rattle.text.proofs.line_text.four.Tie as tie
 
@@ -10,7 +12,8 @@ enum-told : tie.Need-enum-told
 enum-told c = search needs
 
 returns : tie.Need-returns
-returns c = search needs
+unfolding allPrices pricesBefore lineVerdict saidOf firstTrue
+returns c = rw (c .enum-told .given .1)
 
 enum-known-close : tie.Need-enum-known-close
 enum-known-close c = search needs
@@ -19,7 +22,8 @@ enum-told-2 : tie.Need-enum-told-2
 enum-told-2 c = search needs
 
 returns-2 : tie.Need-returns-2
-returns-2 c = search needs
+unfolding allPrices pricesBefore lineVerdict saidOf firstTrue
+returns-2 c = rw (c .before .before .before .«open» .given .1, c .enum-told2 .given .1)
 
 enum-known-high : tie.Need-enum-known-high
 enum-known-high c = search needs
@@ -28,7 +32,10 @@ enum-told-3 : tie.Need-enum-told-3
 enum-told-3 c = search needs
 
 returns-3 : tie.Need-returns-3
-returns-3 c = search needs
+unfolding allPrices pricesBefore lineVerdict saidOf firstTrue
+returns-3 c =
+    let close = c .before .before .before in
+    rw (close .before .before .before .«open» .given .1, close .close .given .1, c .enum-told3 .given .1)
 
 enum-known-low : tie.Need-enum-known-low
 enum-known-low c = search needs
@@ -37,9 +44,14 @@ enum-told-4 : tie.Need-enum-told-4
 enum-told-4 c = search needs
 
 returns-4 : tie.Need-returns-4
-returns-4 c = search needs
+unfolding allPrices pricesBefore lineVerdict saidOf firstTrue
+returns-4 c =
+    let high = c .before .before .before in
+    let close = high .before .before .before in
+    rw (close .before .before .before .«open» .given .1, close .close .given .1, high .high .given .1, c .enum-told4 .given .1)
 
 returns-5 : tie.Need-returns-5
+unfolding allPrices lineVerdict saidOf firstTrue
 returns-5 c =
     let low = c .before in
     let high = low .before .before .before in

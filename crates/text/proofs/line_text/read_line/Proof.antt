@@ -1,16 +1,16 @@
 -- A line of at most 80 bytes is what its fields say. Assumes nothing.
 use native.Mathlib.Omega.{arith}
 use borrow.Author.Needs.{needs}
-use borrow.Author.Tests.{le-leb, lt-leb}
 use lib.ListN.{length-take}
-use Rattle.text.specs.LineText.{comma, fieldsLine, lineOf}
-use Rattle.text.proofs.LineLaws.{pieces-whole, pieces-cut}
+use Rattle.recognisers.specs.Refusal.{firstTrue}
+use Rattle.text.specs.LineText.{comma, lineVerdict, saidOf, lineOf, fieldsLine}
+use Rattle.text.proofs.LineLaws.{pieces-whole, pieces-cut, too-long, short-enough}
 use Rattle.text.proofs.line_text.read_line.Statement.{statement}
 use Rattle.text.proofs.line_text.read_line.Tie as tie
 
 returns : tie.Need-returns
 unfolding lineOf
-returns c = rw (lt-leb _ _ (c .if1 .taken))
+returns c = rw (too-long _ _ (c .if1 .taken))
 
 piece-end-requires : tie.Need-piece-end-requires
 piece-end-requires c κs = search needs
@@ -34,20 +34,20 @@ after-open-requires : tie.Need-after-open-requires
 after-open-requires c κs = search needs
 
 returns-2 : tie.Need-returns-2
-unfolding lineOf
+unfolding lineOf fieldsLine
 returns-2 c =
     let comma-found = c .before .before .before in
     let piece = comma-found .before in
     let s = piece .before .before .before .args .s .now in
-    rw (le-leb _ _ (piece .before .if1 .left), pieces-cut comma s (piece .piece-end .result) (piece .piece-end .ensures .0) (comma-found .if2 .taken))
+    rw (short-enough _ _ (piece .before .if1 .left), pieces-cut comma s (piece .piece-end .result) (piece .piece-end .ensures .0) (comma-found .if2 .taken))
     (c .after-open .ensures)
 
 returns-3 : tie.Need-returns-3
-unfolding lineOf fieldsLine
+unfolding lineOf saidOf lineVerdict firstTrue
 returns-3 c =
     let piece = c .before in
     let s = piece .before .before .before .args .s .now in
-    rw (le-leb _ _ (piece .before .if1 .left), pieces-whole comma s (piece .piece-end .result) (piece .piece-end .ensures .0) (c .if2 .left) (piece .piece-end .ensures .1))
+    rw (short-enough _ _ (piece .before .if1 .left), pieces-whole comma s (piece .piece-end .result) (piece .piece-end .ensures .0) (c .if2 .left) (piece .piece-end .ensures .1))
 
 pub read-line-spec : {M : Type 1} → statement M
 read-line-spec =
