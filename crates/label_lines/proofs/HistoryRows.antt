@@ -9,7 +9,7 @@ use lib.Dec.{ltb}
 use lib.ListN.{length, replicate, length-append}
 use Rattle.measures.specs.Bar.{Bar, barsOf}
 use Rattle.measures.specs.Window.{newest}
-use Rattle.recognisers.specs.declared.call.Refusal.the-variants.{TooManyBars, BadLine}
+use Rattle.recognisers.specs.declared.call.Refusal.the-variants as refusal
 use Rattle.recognisers.specs.declared.call.Verdict.the-variants.{Accepted, Denied}
 use Rattle.recognisers.specs.Number.{rowBytes, mostBars, places}
 use Rattle.recognisers.specs.Refusal.{firstTrue}
@@ -27,7 +27,7 @@ use Rattle.text.specs.declared.line_text.Line.{Line}
 use Rattle.text.specs.declared.line_text.Line.the-variants.{Prices, BadShape, BadPrice}
 use Rattle.text.specs.LineText.{lineOf}
 use Rattle.text.specs.Lines.{linesOf}
-use Rattle.label_lines.specs.Output.{refusalLine, fedStep, readStep, stepOf, printedOf, outputOf}
+use Rattle.label_lines.specs.Output.{refusalLine, badPriceLine, fedStep, readStep, stepOf, printedOf, outputOf}
 use Rattle.label_lines.specs.History.{newestLines, historyPrints}
 use Rattle.label_lines.proofs.SessionLaws.{fed-refused, fed-accepted}
 
@@ -78,11 +78,11 @@ module _ (h : List Bar) (bar : Bar) where
     fed-more = fed-accepted (boxOf h) bar _ refl fed ∙ rw (row, after, count-after fresh start h, length-append h (bar ∷ []))
 
   -- past them it is refused
-  fed-past : length h ≡ mostBars → fedStep (boxOf h) bar ≡ record { printed = refusalLine (length h + 1) TooManyBars; after = boxOf h; stops = true }
+  fed-past : length h ≡ mostBars → fedStep (boxOf h) bar ≡ record { printed = refusalLine (length h + 1) refusal.TooManyBars; after = boxOf h; stops = true }
   unfolding feedVerdict firstTrue pricesOf
   fed-past most =
-      let past : verdictOn standardSet h feed ≡ Denied TooManyBars = simp (standard-valid, lt-ltb mostBars (length h + 1) (omega arith)) in
-      fed-refused (boxOf h) bar _ refl TooManyBars (verdict-step fresh start h feed ∙ past) ∙ rw (count-after fresh start h)
+      let past : verdictOn standardSet h feed ≡ Denied refusal.TooManyBars = simp (standard-valid, lt-ltb mostBars (length h + 1) (omega arith)) in
+      fed-refused (boxOf h) bar _ refl refusal.TooManyBars (verdict-step fresh start h feed ∙ past) ∙ rw (count-after fresh start h)
 
 -- ---- lines after it
 
@@ -90,21 +90,21 @@ module _ (h : List Bar) (bar : Bar) where
 module _ (lines : List (List ℕ)) (on : (h : List Bar) → length h ≤ mostBars → printedOf (boxOf h) lines ≡ historyPrints h (map lineOf lines)) where
   bar-line : (h : List Bar) (bar : Bar) (t : Bool) → ltb (length h) mostBars ≡ t → length h ≤ mostBars
       → fedStep (boxOf h) bar .printed ++ cond (fedStep (boxOf h) bar .stops) [] (printedOf (fedStep (boxOf h) bar .after) lines)
-      ≡ cond t (newestLines (h ++ (bar ∷ [])) ++ historyPrints (h ++ (bar ∷ [])) (map lineOf lines)) (refusalLine (length h + 1) TooManyBars)
+      ≡ cond t (newestLines (h ++ (bar ∷ [])) ++ historyPrints (h ++ (bar ∷ [])) (map lineOf lines)) (refusalLine (length h + 1) refusal.TooManyBars)
   bar-line h bar true room few =
       let below = ltb-true (length h) mostBars room in
       let still : length (h ++ (bar ∷ [])) ≤ mostBars = rw (length-append h (bar ∷ [])) (omega (arith, below)) in
       rw (fed-more h bar (omega (arith, below)), on (h ++ (bar ∷ [])) still)
   bar-line h bar false full few =
       let most : length h ≡ mostBars = omega (arith, few, ltb-false (length h) mostBars full) in
-      rw (fed-past h bar most) (append-nil (refusalLine (length h + 1) TooManyBars))
+      rw (fed-past h bar most) (append-nil (refusalLine (length h + 1) refusal.TooManyBars))
 
   one-line : (h : List Bar) (l : Line) → length h ≤ mostBars
       → readStep (boxOf h) l .printed ++ cond (readStep (boxOf h) l .stops) [] (printedOf (readStep (boxOf h) l .after) lines) ≡ historyPrints h (l ∷ map lineOf lines)
   unfolding historyPrints
   one-line h (Prices bar) few = bar-line h bar (ltb (length h) mostBars) refl few
-  one-line h BadShape few = rw (count-after fresh start h) (append-nil (refusalLine (length h + 1) BadLine))
-  one-line h (BadPrice place) few = rw (count-after fresh start h) (append-nil (refusalLine (length h + 1) BadLine))
+  one-line h BadShape few = rw (count-after fresh start h) (append-nil (refusalLine (length h + 1) refusal.BadShape))
+  one-line h (BadPrice place) few = rw (count-after fresh start h) (append-nil (badPriceLine (length h + 1) place))
 
 after-history : (h : List Bar) (lines : List (List ℕ)) → length h ≤ mostBars → printedOf (boxOf h) lines ≡ historyPrints h (map lineOf lines)
 unfolding printedOf stepOf historyPrints

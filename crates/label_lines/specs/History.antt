@@ -5,13 +5,13 @@ use mathlib.Core.List.{List, [], _∷_, _++_}
 use lib.Dec.{ltb}
 use lib.ListN.{length}
 use Rattle.measures.specs.Bar.{Bar}
-use Rattle.recognisers.specs.declared.call.Refusal.the-variants.{TooManyBars, BadLine}
+use Rattle.recognisers.specs.declared.call.Refusal.the-variants as refusal
 use Rattle.recognisers.specs.Number.{mostBars}
 use Rattle.recognisers.specs.Threshold.{standardSet}
 use Rattle.bar_box.specs.Sheet.{rowOf}
 use Rattle.text.specs.declared.line_text.Line.{Line}
 use Rattle.text.specs.declared.line_text.Line.the-variants.{Prices, BadShape, BadPrice}
-use Rattle.label_lines.specs.Output.{rowLines, refusalLine}
+use Rattle.label_lines.specs.Output.{rowLines, refusalLine, badPriceLine}
 
 -- the lines of a history's newest bar: its ordinal is the history's count, its row is over the whole history
 abbrev pub newestLines : List Bar → List ℕ
@@ -24,6 +24,6 @@ historyPrints history [] = []
 historyPrints history (Prices bar ∷ lines) =
     cond (ltb (length history) mostBars)
     (newestLines (history ++ (bar ∷ [])) ++ historyPrints (history ++ (bar ∷ [])) lines)
-    (refusalLine (length history + 1) TooManyBars)
-historyPrints history (BadShape ∷ lines) = refusalLine (length history + 1) BadLine
-historyPrints history (BadPrice place ∷ lines) = refusalLine (length history + 1) BadLine
+    (refusalLine (length history + 1) refusal.TooManyBars)
+historyPrints history (BadShape ∷ lines) = refusalLine (length history + 1) refusal.BadShape
+historyPrints history (BadPrice place ∷ lines) = badPriceLine (length history + 1) place

@@ -7,6 +7,7 @@ use lib.ListN.{replicate}
 use Rattle.io.specs.Digits.{digits}
 use Rattle.measures.specs.Bar.{Bar}
 use Rattle.recognisers.specs.declared.call.Refusal.{Refusal}
+use Rattle.recognisers.specs.declared.call.Refusal.the-variants as refusal
 use Rattle.recognisers.specs.declared.call.Verdict.{Verdict}
 use Rattle.recognisers.specs.declared.call.Verdict.the-variants.{Accepted, Denied}
 use Rattle.recognisers.specs.Number.{recognisers, rowBytes}
@@ -55,9 +56,17 @@ lineRoom = recognisers * 74
 abbrev pub refusedWord : List ℕ
 refusedWord = 114 ∷ 101 ∷ 102 ∷ 117 ∷ 115 ∷ 101 ∷ 100 ∷ []
 
+-- the word, the line's ordinal, the refusal, and the byte behind it
+unfoldable pub refusalPart : ℕ → Refusal → ℕ → List ℕ
+refusalPart ordinal r end = field refusedWord comma ++ field (numeral ordinal) comma ++ field (numeral (refusalNumber r)) end
+
 -- a refusal prints a line such as refused,3,8: the line's ordinal, the refusal
-unfoldable pub refusalLine : ℕ → Refusal → List ℕ
-refusalLine ordinal r = field refusedWord comma ++ field (numeral ordinal) comma ++ field (numeral (refusalNumber r)) lineFeed
+abbrev pub refusalLine : ℕ → Refusal → List ℕ
+refusalLine ordinal r = refusalPart ordinal r lineFeed
+
+-- for a bad price the line gains at its end the field's place: refused,3,9,2
+unfoldable pub badPriceLine : ℕ → ℕ → List ℕ
+badPriceLine ordinal place = refusalPart ordinal refusal.BadPrice comma ++ field (numeral place) lineFeed
 
 -- ---- a line of input
 
@@ -81,7 +90,7 @@ fedStep b bar =
 abbrev pub readStep : BarBox → Line → Step
 readStep b (Prices bar) = fedStep b bar
 readStep b BadShape = judgedOf (verdictOf BadShape) b [] b
-readStep b (BadPrice place) = judgedOf (verdictOf (BadPrice place)) b [] b
+readStep b (BadPrice place) = record { printed = badPriceLine (b .count + 1) place; after = b; stops = true }
 
 unfoldable pub stepOf : BarBox → List ℕ → Step
 stepOf b line = readStep b (lineOf line)

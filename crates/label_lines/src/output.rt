@@ -7,7 +7,7 @@ ghost use lib.Dec.{eqb};
 ghost use lib.ListN.{length};
 ghost use Rattle.bar_box.specs.Sheet.{overlay};
 ghost use Rattle.text.specs.LabelText.{bytesOf};
-ghost use Rattle.label_lines.specs.Output.{numeral, field, rowLine, rowLines, lineRoom, refusalLine};
+ghost use Rattle.label_lines.specs.Output.{numeral, field, rowLine, rowLines, lineRoom, refusalPart, refusalLine, badPriceLine};
 use recognisers::Refusal;
 use recognisers::call::refusal_number;
 use text::label_text;
@@ -86,12 +86,29 @@ pub(crate) fn write_rows(ordinal: u64, sheet: &[u8], out: &mut [u8], at: usize) 
     place
 }
 
-pub(crate) fn write_refusal(ordinal: u64, why: Refusal, out: &mut [u8], at: usize) -> usize
+// A refusal and the byte behind it: the word and its comma, and two numbers of at most 20 digits with what ends each.
+fn write_part(ordinal: u64, why: Refusal, end: u8, out: &mut [u8], at: usize) -> usize
     requires { ⌜ at + 50 ≤ length (now out) ⌝ }
-    ensures { λ r. ⌜ (r ≤ at + 50) × (r ≡ at + length (refusalLine ordinal why)) × (now (out .exit) ≡ overlay (now (out .entry)) at (refusalLine ordinal why)) ⌝ }
+    ensures { λ r. ⌜ (r ≤ at + 50) × (r ≡ at + length (refusalPart ordinal why end)) × (now (out .exit) ≡ overlay (now (out .entry)) at (refusalPart ordinal why end)) ⌝ }
 {
     let word = *b"refused";
     let a = write_field(&word, COMMA, out, at);
     let b = write_number(ordinal, COMMA, out, a);
-    write_number(refusal_number(why) as u64, LINE_FEED, out, b)
+    write_number(refusal_number(why) as u64, end, out, b)
+}
+
+pub(crate) fn write_refusal(ordinal: u64, why: Refusal, out: &mut [u8], at: usize) -> usize
+    requires { ⌜ at + 50 ≤ length (now out) ⌝ }
+    ensures { λ r. ⌜ (r ≤ at + 50) × (r ≡ at + length (refusalLine ordinal why)) × (now (out .exit) ≡ overlay (now (out .entry)) at (refusalLine ordinal why)) ⌝ }
+{
+    write_part(ordinal, why, LINE_FEED, out, at)
+}
+
+// The refusal of a bad price, with its field's place.
+pub(crate) fn write_bad_price(ordinal: u64, place: u8, out: &mut [u8], at: usize) -> usize
+    requires { ⌜ at + 71 ≤ length (now out) ⌝ }
+    ensures { λ r. ⌜ (r ≤ at + 71) × (r ≡ at + length (badPriceLine ordinal place)) × (now (out .exit) ≡ overlay (now (out .entry)) at (badPriceLine ordinal place)) ⌝ }
+{
+    let behind = write_part(ordinal, Refusal::BadPrice, COMMA, out, at);
+    write_number(place as u64, LINE_FEED, out, behind)
 }

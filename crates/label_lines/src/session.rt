@@ -7,7 +7,7 @@ ghost use Prim.Native.Nat.{_+_, _-_, _≤_};
 ghost use lib.ListN.{length, take};
 ghost use Rattle.bar_box.specs.Sheet.{overlay};
 ghost use Rattle.text.specs.Lines.{content};
-ghost use Rattle.label_lines.specs.Output.{lineRoom, refusalLine, fedStep, stepOf};
+ghost use Rattle.label_lines.specs.Output.{lineRoom, refusalLine, badPriceLine, fedStep, stepOf};
 ghost use Rattle.label_lines.specs.Session.{stateOf, sessionOf, freshState, leaves, prints, usedOf, takenOf, absorbedOf, endPrints};
 use crate::output;
 use bar_box::BarBox;
@@ -73,6 +73,20 @@ fn refuse(held: BarBox, why: Refusal, out: &mut [u8], at: usize) -> Stepped
     }
 }
 
+// The refusal of a bad price in the field at a place.
+fn refuse_price(held: BarBox, place: u8, out: &mut [u8], at: usize) -> Stepped
+    requires { ⌜ at + lineRoom ≤ length (now out) ⌝ }
+    ensures { λ r. ⌜ (r .held ≡ held) × (r .stops ≡ true) × (r .at ≤ at + lineRoom) × (r .at ≡ at + length (badPriceLine (held .count + 1) place)) × (now (out .exit) ≡ overlay (now (out .entry)) at (badPriceLine (held .count + 1) place)) ⌝ }
+{
+    let ordinal = held.count as u64 + 1;
+    let end = output::write_bad_price(ordinal, place, out, at);
+    Stepped {
+        held,
+        stops: true,
+        at: end,
+    }
+}
+
 // Feeds one bar and prints its rows.
 fn feed_bar(held: BarBox, bar: Bar, out: &mut [u8], at: usize) -> Stepped
     requires { ⌜ at + lineRoom ≤ length (now out) ⌝ }
@@ -104,8 +118,8 @@ fn step(held: BarBox, line: Partial, out: &mut [u8], at: usize) -> Stepped
 {
     match lines::read(line) {
         Line::Prices(bar) => feed_bar(held, bar, out, at),
-        Line::BadShape => refuse(held, Refusal::BadLine, out, at),
-        Line::BadPrice(_) => refuse(held, Refusal::BadLine, out, at),
+        Line::BadShape => refuse(held, Refusal::BadShape, out, at),
+        Line::BadPrice(place) => refuse_price(held, place, out, at),
     }
 }
 

@@ -4,11 +4,10 @@ use native.Mathlib.Omega.{arith}
 use borrow.Author.Needs.{needs}
 use Rattle.recognisers.specs.Refusal.{refusalNumber}
 use Rattle.text.specs.LineText.{comma}
-use Rattle.text.specs.Lines.{lineFeed}
-use Rattle.label_lines.specs.Output.{numeral, field, refusedWord, refusalLine}
+use Rattle.label_lines.specs.Output.{numeral, field, refusedWord, refusalPart}
 use Rattle.label_lines.proofs.OutputLaws.{number-most, written-on}
-use Rattle.label_lines.proofs.output.write_refusal.Statement.{statement}
-use Rattle.label_lines.proofs.output.write_refusal.Tie as tie
+use Rattle.label_lines.proofs.output.write_part.Statement.{statement}
+use Rattle.label_lines.proofs.output.write_part.Tie as tie
 
 slice-aggregate-write-field : tie.Need-slice-aggregate-write-field
 slice-aggregate-write-field c = search needs
@@ -32,7 +31,7 @@ same-length : tie.Need-same-length
 same-length c = search needs
 
 returns : tie.Need-returns
-unfolding refusalLine
+unfolding refusalPart
 returns c =
     let third = c .before .before in
     let second = third .before .before .before .before .before in
@@ -41,16 +40,16 @@ returns c =
     let s = args .out .now in
     let x = field refusedWord comma in
     let y = field (numeral (args .ordinal)) comma in
-    let z = field (numeral (refusalNumber (args .why))) lineFeed in
+    let z = field (numeral (refusalNumber (args .why))) (args .end) in
     let y-most = number-most (args .ordinal) comma in
-    let z-most = number-most (refusalNumber (args .why)) lineFeed in
+    let z-most = number-most (refusalNumber (args .why)) (args .end) in
     let last = rw (third .before .before .refusal-number .ensures) at (third .write-number2 .ensures) in
     let two = written-on s _ x _ _ y _ _ (omega (arith, y-most)) (first .write-field .ensures) (second .write-number .ensures) in
     let all = written-on s _ (x ++ y) _ _ z _ _ (omega (arith, y-most, z-most)) two last in
     (omega (arith, y-most, z-most, last .0), all .0, all .1)
 
-pub write-refusal-spec : {M : Type 1} → statement M
-write-refusal-spec =
+pub write-part-spec : {M : Type 1} → statement M
+write-part-spec =
     tie.close
     (tie.spec
     slice-aggregate-write-field
