@@ -62,7 +62,7 @@ LABELS = set(
 
 PRICE = re.compile(r"nan|-?[0-9]{1,9}(\.[0-9]{1,6})?")
 LABEL_LINE = re.compile(r"([1-9][0-9]{0,6}),([0-9]|1[0-7]),([^,]+),([^,]+)")
-REFUSED_LINE = re.compile(r"refused,([0-9]+),([0-9]+)")
+REFUSED_LINE = re.compile(r"refused,([0-9]+),([0-9]+)(?:,([1-4]))?")
 
 
 class Unfit(Exception):
@@ -102,10 +102,11 @@ def read_labels(path, count):
     for number, line in enumerate(lines_of(path), 1):
         refused = REFUSED_LINE.fullmatch(line)
         if refused:
-            ordinal, refusal = refused.groups()
+            ordinal, refusal, field = refused.groups()
+            where = f", field {field}" if field else ""
             raise Unfit(
                 f"{path}, line {number}: the labels program refused line {ordinal} of the bars "
-                f"(refusal {refusal})"
+                f"(refusal {refusal}{where})"
             )
         match = LABEL_LINE.fullmatch(line)
         if not match or not {match[3], match[4]} <= LABELS:

@@ -3,5 +3,6 @@
 pub mod HistoryRows
 pub mod NumeralLaws
 pub mod OutputLaws
+pub mod SameRows
 pub mod SessionLaws
 pub mod Whole

@@ -1,3 +1,4 @@
 pub mod History
 pub mod Output
+pub mod SameRows
 pub mod Session

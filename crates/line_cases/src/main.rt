@@ -1,8 +1,8 @@
 // Holds document 01's text and the labels program's refusals to a file, which that program's own input cannot: it stops at its first
 // refusal. Each line of standard input is a case, a whole input of a session of its own. A line is written for each: the case's number;
-// what its text says, 0 and the prices' bits, or 8 and the place of the leftmost field that is no price; and what the session printed.
+// what its text says, 0 and the prices' bits, 8, or 9 and the place of the leftmost field that is no price; and what the session printed.
 // The cases are, in turn: good lines and other numbers of fields; a field that is bad alone, and two and more; lengths; signs; spaces;
-// other ways to write a number; nan; points; digits; zeros; and bytes that are no text.
+// other ways to write a number; nan; points; digits; zeros; bytes that are no text; and 8 beside 9, each place and 80 and 81 bytes.
 //
 // Then the labels' texts and the limits of a session, a line each. Every function is proved safe and ending; what is written is seen in
 // the file stdout, which the gate holds this program to.

@@ -1,17 +1,16 @@
-//! The labels program in plain Rust, written from document 01 alone: lines of prices in, labels
-//! out. The labels come from the plain port's box or from the repository's own functions.
+//! The labels program in plain Rust, written from documents 01 and 02 alone: lines of prices in,
+//! labels out. The labels come from the plain port's box or from the repository's own functions.
 
 pub mod judge;
 pub mod line;
 pub mod price;
+pub mod refusal;
 
 use jcc_types::LABELS;
 use judge::{Judge, Row};
 use line::{Lines, Next};
+use refusal::Refusal;
 use std::io::{self, BufRead, Write};
-
-/// The refusal of a line that is too long or not four prices.
-const BAD_LINE: u32 = 8;
 
 /// What a run has done.
 #[derive(Clone, Copy, Debug, Default, PartialEq, Eq)]
@@ -21,7 +20,7 @@ pub struct Done {
     /// The labels printed.
     pub rows: u64,
     /// The refusal that ended the run; without one the input ended it.
-    pub refusal: Option<u32>,
+    pub refusal: Option<Refusal>,
 }
 
 /// Labels the bars of an input, a line each, until it ends or a line is refused. An input that
@@ -35,12 +34,12 @@ pub fn run(
     let mut done = Done::default();
     loop {
         let bar = match lines.read()? {
-            Next::Line(line) => price::bar(line).ok_or(BAD_LINE),
-            Next::TooLong => Err(BAD_LINE),
+            Next::Line(line) => price::bar(line),
+            Next::TooLong => Err(Refusal::SHAPE),
             Next::End => break,
         };
         let ordinal = done.bars + 1;
-        match bar.and_then(|bar| judge.next(&bar)) {
+        match bar.and_then(|bar| judge.next(&bar).map_err(Refusal::of_feed)) {
             Ok(row) => done.rows += print(&mut output, ordinal, &row)?,
             Err(refusal) => {
                 writeln!(output, "refused,{ordinal},{refusal}")?;
@@ -102,6 +101,39 @@ mod tests {
     fn no_lines() {
         assert_eq!(printed(""), "");
         assert_eq!(printed("\n"), "refused,1,8\n");
+    }
+
+    #[test]
+    fn refused_lines() {
+        for (line, refusal) in [
+            ("", "8"),
+            ("5,6,7", "8"),
+            ("5,6,7,4,", "8"),
+            ("O,O,O,O,O", "8"),
+            (",,,", "9,1"),
+            ("5,O,7,4", "9,2"),
+            ("O,O,O,O", "9,1"),
+            ("5,6, 7,+4", "9,3"),
+            ("5,6,7,4\r", "9,4"),
+        ] {
+            let input = format!("5,6,7,4\n{line}\n5,6,8,3\n");
+            assert_eq!(printed(&input), format!("refused,2,{refusal}\n"), "{line:?}");
+        }
+        assert_eq!(printed("5,6,7,4\n5,6,7,O"), "refused,2,9,4\n");
+    }
+
+    #[test]
+    fn eighty_bytes() {
+        for (bytes, refusals) in [(80, ["9,1", "9,2", "9,3", "9,4"]), (81, ["8"; 4])] {
+            for (field, refusal) in refusals.into_iter().enumerate() {
+                let mut fields = ["5", "6", "7", "4"].map(str::to_string);
+                fields[field] = "0".repeat(bytes - 6);
+                let line = fields.join(",");
+                assert_eq!(line.len(), bytes);
+                assert_eq!(printed(&line), format!("refused,1,{refusal}\n"));
+            }
+        }
+        assert_eq!(printed(&"1".repeat(1_000_000)), "refused,1,8\n");
     }
 
     #[test]

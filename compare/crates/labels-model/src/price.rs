@@ -1,6 +1,7 @@
 //! A price in a text line: `nan`, or an optional minus, 1 to 9 digits, and optionally a point and
 //! 1 to 6 digits.
 
+use crate::refusal::Refusal;
 use jcc_types::Bar;
 
 const MOST_WHOLE: usize = 9;
@@ -11,12 +12,16 @@ const NAN: f64 = f64::from_bits(0x7FF8_0000_0000_0000);
 /// The powers of ten that a price is divided by.
 const POWERS: [f64; MOST_DECIMALS + 1] = [1.0, 10.0, 100.0, 1e3, 1e4, 1e5, 1e6];
 
-/// The bar of a line: open, close, high, low.
-pub fn bar(line: &[u8]) -> Option<Bar> {
+/// The bar of a line: open, close, high, low. The fields are counted before a price is read.
+pub fn bar(line: &[u8]) -> Result<Bar, Refusal> {
     let mut fields = line.split(|byte| *byte == b',');
-    let mut next = || price(fields.next()?);
-    let bar = Bar::new(next()?, next()?, next()?, next()?);
-    fields.next().is_none().then_some(bar)
+    let mut next = || fields.next().ok_or(Refusal::SHAPE);
+    let four = [next()?, next()?, next()?, next()?];
+    if fields.next().is_some() {
+        return Err(Refusal::SHAPE);
+    }
+    let value = |field: usize| price(four[field]).ok_or(Refusal::price(field + 1));
+    Ok(Bar::new(value(0)?, value(1)?, value(2)?, value(3)?))
 }
 
 pub fn price(text: &[u8]) -> Option<f64> {
@@ -119,18 +124,19 @@ mod tests {
 
     #[test]
     fn lines() {
-        assert!(bar(b"1,2,3,4").is_some());
-        for line in [
-            "",
-            "1",
-            "1,2,3",
-            "1,2,3,",
-            "1,2,3,4,",
-            "1,2,3,4,5",
-            ",1,2,3",
-            "1,2,3,4\r",
+        assert!(bar(b"1,2,3,4").is_ok());
+        for line in ["", "1", "1,2,3", "1,2,3,4,", "1,2,3,4,5", "x", ",,", ",,,,"] {
+            assert_eq!(bar(line.as_bytes()).err(), Some(Refusal::SHAPE), "{line:?}");
+        }
+        for (line, place) in [
+            (",1,2,3", 1),
+            ("1,,,3", 2),
+            ("1,2,x,4", 3),
+            ("1,2,3,", 4),
+            ("1,2,3,4\r", 4),
         ] {
-            assert!(bar(line.as_bytes()).is_none(), "{line:?}");
+            let refusal = Refusal::price(place);
+            assert_eq!(bar(line.as_bytes()).err(), Some(refusal), "{line:?}");
         }
     }
 }

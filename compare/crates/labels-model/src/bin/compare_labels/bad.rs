@@ -80,8 +80,8 @@ const FIELDS: [(&str, &[&[u8]]); 9] = [
     ),
 ];
 
-/// Lines that are not four fields.
-const LINES: [&[u8]; 16] = [
+/// Lines that are not four fields, and lines with several bad ones.
+const LINES: [&[u8]; 24] = [
     b"",
     b"5",
     b"5,6",
@@ -98,6 +98,14 @@ const LINES: [&[u8]; 16] = [
     b"5,,6,7,4",
     b"nan",
     b"# 5,6,7,4",
+    b"O,O,O",
+    b"O,O,O,O",
+    b"O,O,O,O,O",
+    b"5,O,O,4",
+    b"5,6,O,O",
+    b"5,O,7,O",
+    b"O,6,7,O",
+    b"5,6,O,4,",
 ];
 
 /// Every bad line that has no random part.
@@ -135,7 +143,16 @@ fn long_line(rng: &mut Rng) -> Vec<u8> {
         1 => rng.between(100, 70_000),
         _ => rng.between(69, 83),
     };
-    line_of(length, rng.below(FILLS))
+    if rng.one_in(2) {
+        four_fields(length, rng.below(4), rng.pick(&[b'0', b' ', b'O']))
+    } else {
+        line_of(length, rng.below(FILLS))
+    }
+}
+
+/// Four fields of so many bytes in all, one of which takes what the others leave.
+pub fn four_fields(length: usize, field: usize, fill: u8) -> Vec<u8> {
+    with_field(&vec![fill; length.saturating_sub(6)], field)
 }
 
 /// What a line of a given length is made of.

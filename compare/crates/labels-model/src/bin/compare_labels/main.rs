@@ -41,5 +41,8 @@ fn compare(options: &Options) -> Result<(), String> {
     checks.iter().for_each(|check| tally.add(&check.tally));
     println!("{:.0} seconds", start.elapsed().as_secs_f64());
     tally.print();
-    Ok(())
+    match tally.unseen().as_slice() {
+        [] => Ok(()),
+        kinds => Err(format!("never refused by {}", kinds.join(", by "))),
+    }
 }

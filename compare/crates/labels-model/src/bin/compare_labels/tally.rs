@@ -2,10 +2,22 @@
 
 use labels_model::Done;
 use labels_model::line::MOST;
+use labels_model::refusal::Refusal;
 use std::collections::BTreeMap;
 
-/// Why a line was refused.
-const KINDS: [&str; 5] = ["empty", "long", "fields", "price", "history"];
+/// Why a line was refused, by what it is.
+const KINDS: [&str; 10] = [
+    "8: empty",
+    "8: too long, four fields",
+    "8: too long",
+    "8: another number of fields",
+    "9: at 1",
+    "9: at 2",
+    "9: at 3",
+    "9: at 4",
+    "9: 80 bytes",
+    "5",
+];
 
 #[derive(Default)]
 pub struct Tally {
@@ -79,29 +91,33 @@ impl Tally {
         }
         let [stopped, waited] = self.open;
         println!("a refused line while the input stays open: stopped={stopped} waited={waited}");
-        let [empty, long, fields, price, history] = self.refusals;
+        for (kind, n) in KINDS.iter().zip(self.refusals) {
+            println!("refusal {kind}: {n} inputs");
+        }
         println!(
-            "inputs={} lines={} bytes={} rows={} refusals 8: empty={empty} long={long} \
-             fields={fields} price={price}, 5: {history}; differences=0",
+            "inputs={} lines={} bytes={} rows={} differences=0",
             self.inputs, self.lines, self.bytes, self.rows
         );
+    }
+
+    /// The kinds of refused lines that no input had.
+    pub fn unseen(&self) -> Vec<&'static str> {
+        let kinds = KINDS.iter().zip(self.refusals);
+        kinds.filter(|(_, n)| *n == 0).map(|(kind, _)| *kind).collect()
     }
 }
 
 /// The kind of a refused line, which comes after so many others.
-fn kind(input: &[u8], before: usize, refusal: u32) -> usize {
-    if refusal != 8 {
-        return 4;
-    }
+fn kind(input: &[u8], before: usize, refusal: Refusal) -> usize {
     let line = input.split(|byte| *byte == b'\n').nth(before);
     let line = line.expect("the refused line is in the input");
-    if line.is_empty() {
-        0
-    } else if line.len() > MOST {
-        1
-    } else if line.split(|byte| *byte == b',').count() != 4 {
-        2
-    } else {
-        3
+    match refusal.place {
+        Some(_) if line.len() == MOST => 8,
+        Some(place) => 3 + place,
+        None if refusal != Refusal::SHAPE => 9,
+        None if line.is_empty() => 0,
+        None if line.len() <= MOST => 3,
+        None if line.split(|byte| *byte == b',').count() == 4 => 1,
+        None => 2,
     }
 }

@@ -60,6 +60,7 @@ pub fn all(options: &Options) -> Vec<Work> {
         Work::Most("5,6,7,4", Shape::Walk),
         Work::Most("5,6,7,4\nbad\n", Shape::Small),
         Work::Most("5,6,7\n", Shape::Walk),
+        Work::Most("5,O,7,4\n", Shape::Small),
         Work::Most("\n", Shape::Small),
     ]);
     parts
@@ -160,12 +161,21 @@ fn lengths(check: &mut Check) -> Result<(), Difference> {
             }
         }
     }
-    // The longest good line, and zeros that make it too long.
+    // The longest good line, and zeros that make one of its fields bad and then the line too long.
     let field = b"-123456789.654321".as_slice();
-    for zeros in 0..12 {
-        let first = [b"-", b"0".repeat(zeros).as_slice(), &field[1..]].concat();
-        let input = [&first, field, field, field].join(&b',');
-        check.input(&input, &[Way::Pipe, Way::Chunks(vec![40])])?;
+    for (place, zeros) in (0..4).flat_map(|place| (0..12).map(move |zeros| (place, zeros))) {
+        let longer = [b"-", b"0".repeat(zeros).as_slice(), &field[1..]].concat();
+        let mut fields = [field; 4];
+        fields[place] = &longer;
+        check.input(&fields.join(&b','), &[Way::Pipe, Way::Chunks(vec![40])])?;
+    }
+    // Four fields of which one is bad, around the limit.
+    for (field, length) in (0..4).flat_map(|field| (76..=84).map(move |length| (field, length))) {
+        for fill in *b"0 O" {
+            let line = bad::four_fields(length, field, fill);
+            let input = [good, line.as_slice(), b"\n5,6,7,4\n"].concat();
+            check.input(&input, &[Way::Pipe, Way::Chunks(vec![41])])?;
+        }
     }
     Ok(())
 }
