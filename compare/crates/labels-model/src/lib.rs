@@ -117,7 +117,11 @@ mod tests {
             ("5,6,7,4\r", "9,4"),
         ] {
             let input = format!("5,6,7,4\n{line}\n5,6,8,3\n");
-            assert_eq!(printed(&input), format!("refused,2,{refusal}\n"), "{line:?}");
+            assert_eq!(
+                printed(&input),
+                format!("refused,2,{refusal}\n"),
+                "{line:?}"
+            );
         }
         assert_eq!(printed("5,6,7,4\n5,6,7,O"), "refused,2,9,4\n");
     }

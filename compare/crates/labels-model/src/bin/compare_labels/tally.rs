@@ -103,7 +103,10 @@ impl Tally {
     /// The kinds of refused lines that no input had.
     pub fn unseen(&self) -> Vec<&'static str> {
         let kinds = KINDS.iter().zip(self.refusals);
-        kinds.filter(|(_, n)| *n == 0).map(|(kind, _)| *kind).collect()
+        kinds
+            .filter(|(_, n)| *n == 0)
+            .map(|(kind, _)| *kind)
+            .collect()
     }
 }
 
