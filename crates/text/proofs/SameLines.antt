@@ -177,7 +177,7 @@ module _ (s : List ℕ) where
         never-both = rw (longer (length s)) (not-both short four all);
         prices = λ bar. (said-four bar, λ is. four-said bar (is .0) (is .1));
         placed = λ met.
-          let is = said-place fields short four all met in
-          (leftmostBad fields, (ap placesIn said ∙ is .2, leftmost-of-four fields (eqb-true (length fields) 4 (is .0)) (is .1)));
+            let is = said-place fields short four all met in
+            (leftmostBad fields, (ap placesIn said ∙ is .2, leftmost-of-four fields (eqb-true (length fields) 4 (is .0)) (is .1)));
         not-placed = λ met. ap placesIn said ∙ said-no-place fields short four all met;
       }

@@ -45,7 +45,7 @@ leftmostBad fields = suc (pricesBefore fields)
 
 -- ---- why a line is refused
 
--- a text line tries 8 and 9: of so many bytes, with these fields
+-- a text line of so many bytes with these fields tries 8 and 9
 unfoldable pub lineVerdict : ℕ → List Price → Verdict
 lineVerdict bytes fields = firstTrue (badShape bytes (length fields) ∷ badPrice bytes (length fields) (allPrices fields) ∷ [])
 
@@ -64,6 +64,7 @@ abbrev pub answerTo : Verdict → List Price → Line
 answerTo Accepted fields = Prices (barOf (valueAt fields 0) (valueAt fields 1) (valueAt fields 2) (valueAt fields 3))
 answerTo (Denied r) fields = cond (eqb (refusalNumber r) 9) (BadPrice (leftmostBad fields)) BadShape
 
+-- of a line of so many bytes with these fields, and of the line itself
 unfoldable pub saidOf : ℕ → List Price → Line
 saidOf bytes fields = answerTo (lineVerdict bytes fields) fields
 
