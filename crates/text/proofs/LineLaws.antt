@@ -1,7 +1,7 @@
 -- Pieces and lines, one byte or one piece at a time; the bytes of a line that are enough to tell; and its verdict. Assumes nothing.
 use Prim.Native.Nat.{ℕ, zero, suc, _+_, _-_, _≤_, _<_}
 use mathlib.Core.Bool.{Bool, true, false, cond, not}
-use mathlib.Core.List.{List, [], _∷_, _++_, map, append-assoc, append-nil}
+use mathlib.Core.List.{List, [], _∷_, _++_, append-assoc, append-nil}
 use mathlib.Core.Path.{_≡_, refl, ap, _∙_}
 use native.Mathlib.Numerals.{add-one}
 use native.Mathlib.Omega.{arith}
@@ -16,9 +16,9 @@ use Rattle.recognisers.specs.Refusal.{badShape, badPrice, firstTrue}
 use Rattle.text.specs.declared.lines.Partial.{Partial}
 use Rattle.text.specs.declared.price_text.Price.{Price}
 use Rattle.text.specs.declared.line_text.Line.the-variants.{BadShape}
-use Rattle.text.specs.PriceText.{runOf, priceOf}
+use Rattle.text.specs.PriceText.{runOf}
 use Rattle.text.specs.Lines.{lineFeed, piecesFrom, piecesOf, endedLines, linesFrom, linesOf, pieceEnd, keptLine, content, partialOf}
-use Rattle.text.specs.LineText.{comma, pricesIn, allPrices, lineVerdict, answerTo, saidOf, lineOf, verdictOf, fieldsLine}
+use Rattle.text.specs.LineText.{pricesIn, allPrices, lineVerdict, answerTo, saidOf, lineOf, verdictOf, fieldsLine}
 use Rattle.text.proofs.PartLaws.{to-end}
 
 -- ---- pieces

@@ -1,6 +1,6 @@
 -- The same lines are accepted as by 01's words for refusal 8, with the same prices; every other is refused by 8 or by 9, and 9 names the
 -- leftmost field that is no price. Assumes nothing.
-use Prim.Native.Nat.{ℕ, suc, _-_, _≤_, _<_}
+use Prim.Native.Nat.{ℕ, _-_, _≤_, _<_}
 use mathlib.Core.Bool.{Bool, true, false, cond, not, _&&_, _||_, true≢false, false≢true}
 use mathlib.Core.List.{List, [], _∷_}
 use mathlib.Core.Path.{_≡_, refl, sym, ap, _∙_}
@@ -19,8 +19,8 @@ use Rattle.text.specs.declared.price_text.Price.{Price}
 use Rattle.text.specs.declared.price_text.Price.the-variants.{Value, Bad}
 use Rattle.text.specs.declared.line_text.Line.{Line}
 use Rattle.text.specs.declared.line_text.Line.the-variants.{Prices, BadShape, BadPrice}
-use Rattle.text.specs.LineText.{pricesIn, isPrice, allPrices, pricesBefore, leftmostBad, lineVerdict, valueOf, valueAt, answerTo, saidOf, lineOf, verdictOf, placesIn}
-use Rattle.text.specs.SameLines.{acceptedBy01, met8, met9, fourOf, Leftmost, SameLines}
+use Rattle.text.specs.LineText.{pricesIn, isPrice, allPrices, pricesBefore, leftmostBad, lineVerdict, valueOf, valueAt, answerTo, saidOf, lineOf, placesIn}
+use Rattle.text.specs.SameLines.{fourOf, Leftmost, SameLines}
 use Rattle.text.proofs.RunLaws.{both}
 use Rattle.text.proofs.LineLaws.{said-verdict}
 
@@ -34,13 +34,11 @@ leftmost [] e = absurd (true≢false e)
 leftmost (Value x ∷ fields) e = let rest = leftmost fields e in (omega (arith, rest .0), rest .1, rest .2)
 leftmost (Bad ∷ fields) e = (omega arith, refl, refl)
 
-less-one : (n : ℕ) → suc n - 1 ≡ n
-less-one n = omega arith
-
 leftmost-of-four : (fields : List Price) → length fields ≡ 4 → allPrices fields ≡ false → Leftmost fields (leftmostBad fields)
 leftmost-of-four fields four e =
     let is = leftmost fields e in
-    (omega arith, omega (arith, is .0), rw less-one (is .1), rw less-one (is .2))
+    let before : leftmostBad fields - 1 ≡ pricesBefore fields = omega arith in
+    (omega arith, omega (arith, is .0), rw before (is .1), rw before (is .2))
 
 -- four prices are their values
 is-value : (p : Price) → isPrice p ≡ true → p ≡ Value (valueOf p)
