@@ -1,11 +1,11 @@
--- The search over growing windows, step by step, where nothing matches, and within the newest nine bars; and the two greatest bodies when an older bar comes in front.
+-- The search over growing windows, a size more, where nothing more matches, and within the newest nine bars; and the two greatest bodies when an older bar comes in front.
 -- Assumes nothing.
 use Prim.Native.Nat.{ℕ, zero, suc, _+_, _-_, _<_, _≤_}
-use mathlib.Core.Path.{_≡_, refl}
+use mathlib.Core.Path.{_≡_, refl, sym, _∙_}
 use mathlib.Core.Bool.{Bool, true, false, cond}
 use mathlib.Core.List.{List, [], _∷_, reverse, reverseAux}
 use native.Mathlib.Omega.{arith}
-use borrow.Author.Tests.{eq-eqb, ne-eqb}
+use borrow.Author.Tests.{eqb-true, eqb-false, eq-eqb, ne-eqb}
 use lib.Dec.{eqb}
 use lib.ListN.{getD}
 use lib.Ieee.{Float, nan, lt}
@@ -19,34 +19,73 @@ use Rattle.rule_types.specs.declared.label.Pair.{Pair}
 use Rattle.rule_types.specs.Label.{codeOf, pairOf, pairA}
 use Rattle.growing_rules.specs.GrowingRule.{sizeLabel, firstMatch, threeMethods, sanFaV20221118, tower, taXing, insertOf, bodiesDown, bodiesUp, lastButOne, bodiesKnown, leadersOf, joined}
 
--- ---- the search, from n on up to the size before `to`
+-- ---- the search, a size more: what was found stands; where nothing was, the window of that size decides
 
-module _ (check : List Bar → Label) (w : List Bar) (to n : ℕ) where
-  abbrev upwards : Pair
-  upwards = firstMatch check (to - n) n w
+module _ (check : List Bar → Label) (w : List Bar) where
+  abbrev label : ℕ → Label
+  label n = check (windowOf w 1 n)
 
-  match-step : n < to
-      → upwards ≡ cond (eqb (codeOf (check (windowOf w 1 n))) 0) (firstMatch check (to - (n + 1)) (n + 1) w) (pairOf (check (windowOf w 1 n)) (sizeLabel n))
+  abbrev matchAt : ℕ → Pair
+  matchAt n = cond (eqb (codeOf (label n)) 0) pairA (pairOf (label n) (sizeLabel n))
+
+  abbrev orAt : ℕ → Pair → Pair
+  orAt n found = cond (eqb (codeOf (found .v1)) 0) (matchAt n) found
+
+  match-more : (k n : ℕ) → firstMatch check (suc k) n w ≡ orAt (n + k) (firstMatch check k n w)
   unfolding firstMatch
-  match-step h = let e : to - n ≡ suc (to - (n + 1)) = omega arith in rw e
+  match-more zero n = let e : n + 0 ≡ n = omega arith in rw e
+  match-more (suc k) n = go (eqb (codeOf (label n)) 0) refl (match-more k (n + 1))
+    where
+      go : (t : Bool) → eqb (codeOf (label n)) 0 ≡ t → firstMatch check (suc k) (n + 1) w ≡ orAt (n + 1 + k) (firstMatch check k (n + 1) w)
+          → cond t (firstMatch check (suc k) (n + 1) w) (pairOf (label n) (sizeLabel n)) ≡ orAt (n + suc k) (cond t (firstMatch check k (n + 1) w) (pairOf (label n) (sizeLabel n)))
+      go true e more = let f : n + suc k ≡ n + 1 + k = omega arith in rw f more
+      go false e more = simp e
 
-  -- a match ends the search, and where there is none it goes on
-  pub match-hit : n < to → (codeOf (check (windowOf w 1 n)) ≡ 0 → ⊥) → upwards ≡ pairOf (check (windowOf w 1 n)) (sizeLabel n)
-  match-hit h e = rw (match-step h, ne-eqb (codeOf (check (windowOf w 1 n))) 0 e)
-
-  pub match-miss : n < to → codeOf (check (windowOf w 1 n)) ≡ 0 → upwards ≡ firstMatch check (to - (n + 1)) (n + 1) w
-  match-miss h e = rw (match-step h, eq-eqb (codeOf (check (windowOf w 1 n))) 0 e)
-
-  pub match-end : to ≤ n → upwards ≡ pairA
+  -- a search that found nothing gives the pair A
+  match-none : (k n : ℕ) → codeOf (firstMatch check k n w .v1) ≡ 0 → firstMatch check k n w ≡ pairA
   unfolding firstMatch
-  match-end h = let e : to - n ≡ 0 = omega arith in rw e
+  match-none zero n none = refl
+  match-none (suc k) n none = go (eqb (codeOf (label n)) 0) refl (match-none k (n + 1)) none
+    where
+      go : (t : Bool) → eqb (codeOf (label n)) 0 ≡ t → (codeOf (firstMatch check k (n + 1) w .v1) ≡ 0 → firstMatch check k (n + 1) w ≡ pairA)
+          → codeOf (cond t (firstMatch check k (n + 1) w) (pairOf (label n) (sizeLabel n)) .v1) ≡ 0
+          → cond t (firstMatch check k (n + 1) w) (pairOf (label n) (sizeLabel n)) ≡ pairA
+      go true e rest h = rest h
+      go false e rest h = absurd (eqb-false (codeOf (label n)) 0 e h)
 
--- no match where the check finds none in windows of 5 bars and up
-pub match-none : (check : List Bar → Label) (w : List Bar) → ((n : ℕ) → 5 ≤ n → check (windowOf w 1 n) ≡ Other)
-    → (k n : ℕ) → 5 ≤ n → firstMatch check k n w ≡ pairA
-unfolding firstMatch
-match-none check w none zero n h = refl
-match-none check w none (suc k) n h = simp (none n h, match-none check w none k (n + 1) (omega arith))
+  -- what is found in the windows of 5 bars to those of fewer than n, and of n too
+  module _ (n : ℕ) (many : 5 ≤ n) where
+    abbrev found : Pair
+    found = firstMatch check (n - 5) 5 w
+
+    abbrev next : Pair
+    next = firstMatch check (n + 1 - 5) 5 w
+
+    next-is : next ≡ orAt n found
+    next-is =
+        let e : n + 1 - 5 ≡ suc (n - 5) = omega arith in
+        let f : 5 + (n - 5) ≡ n = omega arith in
+        rw e (rw f at (match-more (n - 5) 5))
+
+    pub match-stays : (codeOf (found .v1) ≡ 0 → ⊥) → next ≡ found
+    match-stays some = rw (next-is, ne-eqb (codeOf (found .v1)) 0 some)
+
+    pub match-hit : codeOf (found .v1) ≡ 0 → (codeOf (label n) ≡ 0 → ⊥) → next ≡ pairOf (label n) (sizeLabel n)
+    match-hit none hit = rw (next-is, eq-eqb (codeOf (found .v1)) 0 none, ne-eqb (codeOf (label n)) 0 hit)
+
+    pub match-miss : codeOf (label n) ≡ 0 → next ≡ found
+    match-miss miss = go (eqb (codeOf (found .v1)) 0) refl
+      where
+        go : (t : Bool) → eqb (codeOf (found .v1)) 0 ≡ t → next ≡ found
+        go true e = rw (next-is, e, eq-eqb (codeOf (label n)) 0 miss) (sym (match-none (n - 5) 5 (eqb-true (codeOf (found .v1)) 0 e)))
+        go false e = rw (next-is, e)
+
+  -- where no window from n bars on matches, nothing more is found
+  pub match-ends : (n : ℕ) → 5 ≤ n → ((i : ℕ) → label (n + i) ≡ Other) → (d : ℕ) → firstMatch check (n + d - 5) 5 w ≡ firstMatch check (n - 5) 5 w
+  match-ends n many none zero = let e : n + 0 ≡ n = omega arith in rw e
+  match-ends n many none (suc d) =
+      let e : n + suc d ≡ n + d + 1 = omega arith in
+      rw e (match-miss (n + d) (omega arith) (rw (none d)) ∙ match-ends n many none d)
 
 -- windows of at most nine bars are the same within the newest nine
 match-near : (check : List Bar → Label) (w : List Bar) (k n : ℕ) → 1 ≤ n → n + k ≤ 10 → firstMatch check k n (newest 9 w) ≡ firstMatch check k n w

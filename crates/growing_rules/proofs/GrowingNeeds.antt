@@ -1,252 +1,184 @@
--- What every match of 4 and of 17 needs, so that it can be tested before any window is tried: the newest bar stands out from the three
--- before it; and what each window needs of its first bar, before its other bars are read. Assumes nothing.
-use Prim.Native.Nat.{ℕ, _+_, _-_, _<_, _≤_, min}
-use mathlib.Core.Path.{_≡_, refl, _∙_, subst}
-use mathlib.Core.Bool.{Bool, true, false, _&&_, _||_, and-false, or-true}
-use mathlib.Core.List.{List}
+-- What every match of 4 and of 17 needs: the newest close lies beyond the middle, and so, before any window is tried, the newest bar stands out
+-- from the three before it. A middle that it does not lie beyond grows to no other. Assumes nothing.
+use Prim.Native.Nat.{ℕ, zero, suc, _+_, _-_, _<_, _≤_, min}
+use mathlib.Core.Path.{_≡_, refl, sym, _∙_}
+use mathlib.Core.Bool.{Bool, true, false, not, _&&_, _||_, and-false}
+use mathlib.Core.List.{List, []}
 use native.Mathlib.Omega.{arith}
-use borrow.Author.Tests.{ltb-false}
+use native.Mathlib.Decide.{decLt}
+use borrow.Author.Tests.{ltb-true, ltb-false}
 use lib.Dec.{ltb}
-use lib.ListN.{length, getD}
-use lib.Ieee.{Float, lt}
-use Rattle.measures.specs.Bar.{Bar, noBar}
-use Rattle.measures.specs.declared.folds.Column.the-variants.{Close, High, Low}
+use lib.ListN.{length}
+use lib.Ieee.{Float, lt, isNan}
+use Rattle.measures.specs.Bar.{Bar}
+use Rattle.measures.specs.declared.folds.Column.the-variants.{High, Low}
 use Rattle.measures.specs.Price.{maxOf, minOf}
 use Rattle.measures.specs.Window.{windowOf, backOf}
-use Rattle.measures.specs.Fold.{columnOf, highestOf, lowestOf, everyOf}
-use Rattle.measures.proofs.Order.{lt-asym, known-left, known-right, max-second, min-second, max-under, min-over, both-ways}
-use Rattle.measures.proofs.FoldLaws.{under, over, every-at}
-use Rattle.measures.proofs.WindowLaws.{upTo-in, upTo-one, length-window, back-window}
+use Rattle.measures.specs.Fold.{columnOf}
+use Rattle.measures.proofs.Order.{max-second, min-second, max-under, min-over, max-known, min-known, both-ways}
+use Rattle.measures.proofs.FoldLaws.{known-highest, known-lowest}
 use Rattle.rule_types.specs.declared.label.Label.the-variants.{Other}
 use Rattle.growing_rules.specs.declared.Shape.{Shape}
 use Rattle.growing_rules.specs.declared.Shape.the-variants.{ThreeMethods, Tower}
-use Rattle.rule_types.specs.Label.{pairA}
-use Rattle.growing_rules.specs.GrowingRule.{firstOf, lastOf, innerOf, risesOf, fallsOf, threeMethods, sanFaV20221118, topOf, bottomOf, tower, taXing, standsOut, checkOf, mayBeMethods, mayBeTower, mayBegin}
-use Rattle.growing_rules.proofs.GrowingLaws.{match-none}
+use Rattle.growing_rules.specs.declared.middle.Middle.{Middle}
+use Rattle.growing_rules.specs.GrowingRule.{firstMatch, innerOf, threeMethods, tower, checkOf, growingOf, sanFaV20221118, taXing, standsOut}
+use Rattle.growing_rules.specs.Middle.{middleOf, entered, middleAt, mayRise, mayFall, mayBeTop, mayBeBottom, mayBe, beyond, noMatch, searchedOf}
+use Rattle.growing_rules.proofs.GrowingLaws.{match-miss, match-ends}
+use Rattle.growing_rules.proofs.MiddleLaws.{first-at, last-at, at-next, at-end}
+use Rattle.growing_rules.proofs.ShapeLaws.{neither, no-label}
 
-abbrev newestOut : List Bar → Bool
-newestOut w = standsOut (backOf w 1) (backOf w 2) (backOf w 3) (backOf w 4)
+-- ---- a conjunction that fails
 
--- what fails wherever one of two tests fails, and also where both pass, fails
-fails : (a b : Bool) {t : Bool} → (a ≡ false → t ≡ false) → (b ≡ false → t ≡ false) → (a ≡ true → b ≡ true → t ≡ false) → t ≡ false
-fails true true f g h = h refl refl
-fails true false f g h = g refl
-fails false b f g h = f refl
+-- fails too with a second part that implies the one it had
+still-fails : (a t u : Bool) → (u ≡ true → t ≡ true) → (a && t) ≡ false → (a && u) ≡ false
+still-fails false t u implies h = refl
+still-fails true t true implies h = both-ways (implies refl) h
+still-fails true t false implies h = refl
 
-neither : (a b : Bool) → (a || b) ≡ false → (a ≡ false) × (b ≡ false)
-neither true b h = both-ways refl h
-neither false b h = (refl, h)
+-- and with it whatever needs both of its parts
+lacking : (a b : Bool) {t : Bool} → (a && b) ≡ false → (a ≡ false → t ≡ false) → (b ≡ false → t ≡ false) → t ≡ false
+lacking false b h f g = f refl
+lacking true b h f g = g h
 
--- ---- a window of 5 bars or more that is tried: its last bar, and the bars between its ends
+-- ---- a window needs a close beyond its middle
 
-module _ (w : List Bar) (n : ℕ) (long : 5 ≤ length w) (many : 5 ≤ n) where
-  abbrev s : List Bar
-  s = windowOf w 1 n
-
-  abbrev mid : List Bar
-  mid = innerOf s
-
+module _ (first last : Bar) (m : Middle) (within : beyond last m ≡ false) where
   abbrev o : Float
-  o = backOf w 1 .«open»
+  o = last .«open»
 
   abbrev c : Float
-  c = backOf w 1 .close
+  c = last .close
 
-  last : lastOf s ≡ backOf w 1
-  unfolding lastOf
-  last = back-window w 1 n 1 (omega arith) (omega arith) (omega arith) (omega arith)
+  sides : ((lt o c && lt (m .highest) c) ≡ false) × ((lt c o && lt c (m .lowest)) ≡ false)
+  unfolding beyond
+  sides = neither (lt o c && lt (m .highest) c) (lt c o && lt c (m .lowest)) within
 
-  length-s : 5 ≤ length s
-  length-s = omega (arith, length-window w 1 n, upTo-one (length w))
+  no-rise : mayRise first last m ≡ false
+  unfolding mayRise
+  no-rise = lacking (lt o c) (lt (m .highest) c) (sides .0) (λ e. simp e) (λ e. simp (e, and-false))
 
-  length-mid : 3 ≤ length mid
-  unfolding innerOf
-  length-mid = let h = length-s in omega (arith, length-window s 2 (length s - 2), upTo-in (length s) 2 (omega arith) (omega arith))
+  no-fall : mayFall first last m ≡ false
+  unfolding mayFall
+  no-fall = lacking (lt c o) (lt c (m .lowest)) (sides .1) (λ e. simp e) (λ e. simp (e, and-false))
 
-  -- the three newest bars between the ends are the three before the newest bar
-  mid-back : (i : ℕ) → 1 ≤ i → i ≤ 3 → backOf mid i ≡ backOf w (i + 1)
-  unfolding innerOf
-  mid-back i h g =
-      let k = length-s in
-      let e1 : i + 2 - 1 ≡ i + 1 = omega arith in
-      let e2 : i + 1 + 1 - 1 ≡ i + 1 = omega arith in
-      (rw e1 at (back-window s 2 (length s - 2) i (omega arith) h (omega arith) (omega arith)))
-      ∙ (rw e2 at (back-window w 1 n (i + 1) (omega arith) (omega arith) (omega arith) (omega arith)))
+  no-top : mayBeTop first last m ≡ false
+  unfolding mayBeTop
+  no-top = lacking (lt c o) (lt c (m .lowest)) (sides .1) (λ e. simp (e, and-false)) (λ e. simp (e, and-false))
 
-  -- so what holds of every bar between the ends holds of those three
-  of-three : (P : Bar → Type 0) → ((j : ℕ) → j < length mid → P (getD mid j noBar)) → (i : ℕ) → 1 ≤ i → i ≤ 3 → P (backOf w (i + 1))
-  unfolding backOf
-  of-three P all i h g = subst P (mid-back i h g) (all (length mid - min i (length mid)) (omega (arith, length-mid)))
+  no-bottom : mayBeBottom first last m ≡ false
+  unfolding mayBeBottom
+  no-bottom = lacking (lt o c) (lt (m .highest) c) (sides .0) (λ e. simp (e, and-false)) (λ e. simp (e, and-false))
 
-  -- the newest bar stands out where it rises and no high between the ends is above its close, or falls and no low there is below it
-  up : lt o c ≡ true → ((j : ℕ) → j < length mid → lt c (getD mid j noBar .high) ≡ false) → newestOut w ≡ true
-  unfolding standsOut
-  up e all =
-      let at = of-three (λ b. lt c (b .high) ≡ false) all in
-      simp (e, at 1 (omega arith) (omega arith), at 2 (omega arith) (omega arith), at 3 (omega arith) (omega arith))
+  no-shape : (shape : Shape) → mayBe shape first last m ≡ false
+  no-shape ThreeMethods = simp (no-rise, no-fall)
+  no-shape Tower = simp (no-top, no-bottom)
 
-  down : lt c o ≡ true → ((j : ℕ) → j < length mid → lt (getD mid j noBar .low) c ≡ false) → newestOut w ≡ true
-  unfolding standsOut
-  down e all =
-      let at = of-three (λ b. lt (b .low) c ≡ false) all in
-      simp (e, at 1 (omega arith) (omega arith), at 2 (omega arith) (omega arith), at 3 (omega arith) (omega arith), or-true)
+-- a window without what the code tests has no label
+pub no-window : (shape : Shape) (w : List Bar) (n : ℕ) → 1 ≤ n → mayBe shape (backOf w n) (backOf w 1) (middleAt w n) ≡ false → checkOf shape (windowOf w 1 n) ≡ Other
+unfolding middleAt
+no-window shape w n some unfit = no-label (windowOf w 1 n) shape (rw (first-at w n, last-at w n some) unfit)
 
-  -- ---- each shape asks for that, by two of its tests: the newest bar's side, and a bound of the bars between the ends
+-- so that what was found stays: 17's, and 4's, which does not try the window of 9 bars
+module _ (w : List Bar) (n : ℕ) (many : 5 ≤ n) where
+  pub tower-stays : mayBe Tower (backOf w n) (backOf w 1) (middleAt w n) ≡ false → searchedOf w (n + 1) .tower ≡ searchedOf w n .tower
+  tower-stays unfit = match-miss tower w n many (rw (no-window Tower w n (omega arith) unfit))
 
-  module _ (out : newestOut w ≡ false) where
-    no-rise : risesOf s ≡ false
-    unfolding risesOf
-    no-rise =
-        fails (lt o c) (lt (highestOf (columnOf High mid)) c)
-        (λ e. simp (last, e))
-        (λ e. simp (last, e, and-false))
-        (λ e f. both-ways (up e (λ j k. under High mid j k c f)) out)
+  pub methods-stay : n < 10 → (ltb n 9 && mayBe ThreeMethods (backOf w n) (backOf w 1) (middleAt w n)) ≡ false → searchedOf w (n + 1) .methods ≡ searchedOf w n .methods
+  methods-stay few unfit = go (ltb n 9) refl unfit
+    where
+      go : (t : Bool) → ltb n 9 ≡ t → (t && mayBe ThreeMethods (backOf w n) (backOf w 1) (middleAt w n)) ≡ false → searchedOf w (n + 1) .methods ≡ searchedOf w n .methods
+      go false e h = let f : min (n + 1) 9 ≡ min n 9 = omega (arith, ltb-false n 9 e) in rw f
+      go true e h =
+          let less = ltb-true n 9 e in
+          let f1 : min (n + 1) 9 ≡ n + 1 = omega (arith, less) in
+          let f2 : min n 9 ≡ n = omega (arith, less) in
+          rw (f1, f2) (match-miss threeMethods w n many (rw (no-window ThreeMethods w n (omega arith) h)))
 
-    no-fall : fallsOf s ≡ false
-    unfolding fallsOf
-    no-fall =
-        fails (lt c o) (lt c (lowestOf (columnOf Low mid)))
-        (λ e. simp (last, e))
-        (λ e. simp (last, e, and-false))
-        (λ e f. both-ways (down e (λ j k. over Low mid j k c f)) out)
+-- ---- and a middle that it does not lie beyond, it does not lie beyond when a bar has entered
 
-    no-top : topOf s ≡ false
-    unfolding topOf
-    no-top =
-        let o' = firstOf s .«open» in
-        fails (lt c o) (everyOf (λ x. lt (maxOf o' c) x) (columnOf Low mid))
-        (λ e. simp (last, e, and-false))
-        (λ e. simp (last, e, and-false))
-        (λ e f. both-ways (down e (λ j k. lt-asym c _ (max-second o' c _ (known-left c o e) (every-at Low mid j k _ f)))) out)
+module _ (last b : Bar) (m : Middle) (high : isNan (m .highest) ≡ false) (low : isNan (m .lowest) ≡ false) where
+  stays-within : beyond last m ≡ false → beyond last (entered b m) ≡ false
+  unfolding beyond entered
+  stays-within within =
+      let e = sides b last m within in
+      let up = still-fails (lt (last .«open») (last .close)) _ _ (max-second (b .high) (m .highest) (last .close) high) (e .0) in
+      let down = still-fails (lt (last .close) (last .«open»)) _ _ (min-second (b .low) (m .lowest) (last .close) low) (e .1) in
+      simp (up, down)
 
-    no-bottom : bottomOf s ≡ false
-    unfolding bottomOf
-    no-bottom =
-        let o' = firstOf s .«open» in
-        fails (lt o c) (everyOf (λ x. lt x (minOf o' c)) (columnOf High mid))
-        (λ e. simp (last, e, and-false))
-        (λ e. simp (last, e, and-false))
-        (λ e f. both-ways (up e (λ j k. lt-asym _ c (min-second o' c _ (known-right o c e) (every-at High mid j k _ f)))) out)
+module _ (w : List Bar) (n : ℕ) where
+  known-high : isNan (middleAt w n .highest) ≡ false
+  unfolding middleAt middleOf
+  known-high = known-highest (columnOf High (innerOf (windowOf w 1 n)))
 
-    no-methods : threeMethods s ≡ Other
-    unfolding threeMethods
-    no-methods = simp (no-rise, no-fall)
+  known-low : isNan (middleAt w n .lowest) ≡ false
+  unfolding middleAt middleOf
+  known-low = known-lowest (columnOf Low (innerOf (windowOf w 1 n)))
 
-    no-tower : tower s ≡ Other
-    unfolding tower
-    no-tower = simp (no-top, no-bottom)
+  next-within : 2 ≤ n → beyond (backOf w 1) (middleAt w n) ≡ false → beyond (backOf w 1) (middleAt w (n + 1)) ≡ false
+  next-within some within =
+      elim (decLt n (length w)) [
+        | yes older ↦ rw (at-next w n some older) (stays-within (backOf w 1) (backOf w n) (middleAt w n) known-high known-low within)
+        | no none ↦ rw (at-end w n (omega arith)) within
+      ]
 
-  -- ---- and each shape asks of its first bar what the code tests before it looks at a window
+-- so no window from there on has a label
+module _ (w : List Bar) (n : ℕ) (some : 2 ≤ n) (within : beyond (backOf w 1) (middleAt w n) ≡ false) where
+  all-within : (i : ℕ) → beyond (backOf w 1) (middleAt w (n + i)) ≡ false
+  all-within zero = let e : n + 0 ≡ n = omega arith in rw e within
+  all-within (suc i) = let e : n + suc i ≡ n + i + 1 = omega arith in rw e (next-within w (n + i) (omega arith) (all-within i))
 
-  same-back : (i j : ℕ) → min i (length w) ≡ min j (length w) → backOf w i ≡ backOf w j
-  unfolding backOf
-  same-back i j e = rw e
+  no-more : (shape : Shape) (i : ℕ) → checkOf shape (windowOf w 1 (n + i)) ≡ Other
+  no-more shape i = no-window shape w (n + i) (omega arith) (no-shape (backOf w (n + i)) (backOf w 1) (middleAt w (n + i)) (all-within i) shape)
 
-  first : firstOf s ≡ backOf w n
-  unfolding firstOf
-  first =
-      let size : length s ≡ min n (length w) = length-window w 1 n ∙ rw (upTo-one (length w)) in
-      let some = length-s in
-      back-window w 1 n (length s) (omega arith) (omega arith) (omega arith) (omega arith) ∙ same-back (length s + 1 - 1) n (omega arith)
+-- and the search is at its end
+pub search-ends : (w : List Bar) (n : ℕ) → 5 ≤ n → n < 10 → beyond (backOf w 1) (middleAt w n) ≡ false → searchedOf w n ≡ growingOf w
+unfolding sanFaV20221118 taXing
+search-ends w n many few within =
+    let e1 : min n 9 ≡ n = omega arith in
+    let e2 : n + (9 - n) - 5 ≡ 4 = omega arith in
+    let e3 : n + (10 - n) - 5 ≡ 5 = omega arith in
+    let some : 2 ≤ n = omega arith in
+    let methods = rw e2 at (match-ends threeMethods w n many (no-more w n some within ThreeMethods) (9 - n)) in
+    let towers = rw e3 at (match-ends tower w n many (no-more w n some within Tower) (10 - n)) in
+    rw (e1, ← methods, ← towers)
 
-  abbrev f : Bar
-  f = backOf w n
+-- ---- the newest bar stands out from the three before it, where its close lies beyond them
 
-  abbrev begins : (Bar → Bar → Bar → Bar → Bar → Bool) → Bool
-  begins may = may f (backOf w 1) (backOf w 2) (backOf w 3) (backOf w 4)
+three-below : (c x y z m : Float) → isNan m ≡ false → lt (maxOf z (maxOf y (maxOf x m))) c ≡ true → (not (lt c x) && not (lt c y) && not (lt c z)) ≡ true
+three-below c x y z m known below =
+    let two = max-second z (maxOf y (maxOf x m)) c (max-known y (maxOf x m) (max-known x m known)) below in
+    let one = max-second y (maxOf x m) c (max-known x m known) two in
+    simp (max-under z (maxOf y (maxOf x m)) c below, max-under y (maxOf x m) c two, max-under x m c one)
 
-  abbrev up-ends : Bool
-  up-ends = lt o c && lt (f .«open») (f .close) && lt (f .high) c
+three-above : (c x y z m : Float) → isNan m ≡ false → lt c (minOf z (minOf y (minOf x m))) ≡ true → (not (lt x c) && not (lt y c) && not (lt z c)) ≡ true
+three-above c x y z m known above =
+    let two = min-second z (minOf y (minOf x m)) c (min-known y (minOf x m) (min-known x m known)) above in
+    let one = min-second y (minOf x m) c (min-known x m known) two in
+    simp (min-over z (minOf y (minOf x m)) c above, min-over y (minOf x m) c two, min-over x m c one)
 
-  abbrev down-ends : Bool
-  down-ends = lt c o && lt (f .close) (f .«open») && lt c (f .low)
+-- a test and three more, the three of which a fourth implies
+fourth-fails : (a x y z u : Bool) → (u ≡ true → (x && y && z) ≡ true) → (a && x && y && z) ≡ false → (a && u) ≡ false
+fourth-fails false x y z u implies h = refl
+fourth-fails true x y z u implies h = still-fails true (x && y && z) u implies h
 
-  rise-begins : up-ends ≡ true → lt (highestOf (columnOf Close mid)) (f .close) ≡ true → begins mayBeMethods ≡ true
-  unfolding mayBeMethods
-  rise-begins e e' =
-      let at = of-three (λ b. lt (f .close) (b .close) ≡ false) (λ j k. under Close mid j k (f .close) e') in
-      simp (e, at 1 (omega arith) (omega arith), at 2 (omega arith) (omega arith), at 3 (omega arith) (omega arith))
+module _ (b1 b2 b3 b4 : Bar) (m : Middle) (high : isNan (m .highest) ≡ false) (low : isNan (m .lowest) ≡ false) where
+  out-of-three : standsOut b1 b2 b3 b4 ≡ false → beyond b1 (entered b4 (entered b3 (entered b2 m))) ≡ false
+  unfolding standsOut beyond entered
+  out-of-three hidden =
+      let c = b1 .close in
+      let e = neither _ _ hidden in
+      let up = fourth-fails (lt (b1 .«open») c) _ _ _ _ (three-below c (b2 .high) (b3 .high) (b4 .high) (m .highest) high) (e .0) in
+      let down = fourth-fails (lt c (b1 .«open»)) _ _ _ _ (three-above c (b2 .low) (b3 .low) (b4 .low) (m .lowest) low) (e .1) in
+      simp (up, down)
 
-  fall-begins : down-ends ≡ true → lt (f .close) (lowestOf (columnOf Close mid)) ≡ true → begins mayBeMethods ≡ true
-  unfolding mayBeMethods
-  fall-begins e e' =
-      let at = of-three (λ b. lt (b .close) (f .close) ≡ false) (λ j k. over Close mid j k (f .close) e') in
-      simp (e, at 1 (omega arith) (omega arith), at 2 (omega arith) (omega arith), at 3 (omega arith) (omega arith), or-true)
+first-three : (w : List Bar) → 5 ≤ length w → middleAt w 5 ≡ entered (backOf w 4) (entered (backOf w 3) (entered (backOf w 2) (middleAt w 2)))
+first-three w long =
+    rw (at-next w 4 (omega arith) (omega arith), at-next w 3 (omega arith) (omega arith), at-next w 2 (omega arith) (omega arith))
 
-  abbrev top-ends : Bool
-  top-ends = lt (f .«open») (f .close) && lt c o
-
-  abbrev bottom-ends : Bool
-  bottom-ends = lt (f .close) (f .«open») && lt o c
-
-  top-begins : top-ends ≡ true → everyOf (λ x. lt (maxOf (f .«open») c) x) (columnOf Low mid) ≡ true → begins mayBeTower ≡ true
-  unfolding mayBeTower
-  top-begins e e' =
-      let at = of-three (λ b. lt (b .low) (f .«open») ≡ false) (λ j k. max-under (f .«open») c _ (every-at Low mid j k _ e')) in
-      simp (e, at 1 (omega arith) (omega arith), at 2 (omega arith) (omega arith), at 3 (omega arith) (omega arith))
-
-  bottom-begins : bottom-ends ≡ true → everyOf (λ x. lt x (minOf (f .«open») c)) (columnOf High mid) ≡ true → begins mayBeTower ≡ true
-  unfolding mayBeTower
-  bottom-begins e e' =
-      let at = of-three (λ b. lt (f .«open») (b .high) ≡ false) (λ j k. min-over (f .«open») c _ (every-at High mid j k _ e')) in
-      simp (e, at 1 (omega arith) (omega arith), at 2 (omega arith) (omega arith), at 3 (omega arith) (omega arith), or-true)
-
-  no-rise-begun : begins mayBeMethods ≡ false → risesOf s ≡ false
-  unfolding risesOf
-  no-rise-begun unfit =
-      fails up-ends (lt (highestOf (columnOf Close mid)) (f .close))
-      (λ e. simp (last, first, e))
-      (λ e. simp (last, first, e, and-false))
-      (λ e e'. both-ways (rise-begins e e') unfit)
-
-  no-fall-begun : begins mayBeMethods ≡ false → fallsOf s ≡ false
-  unfolding fallsOf
-  no-fall-begun unfit =
-      fails down-ends (lt (f .close) (lowestOf (columnOf Close mid)))
-      (λ e. simp (last, first, e))
-      (λ e. simp (last, first, e, and-false))
-      (λ e e'. both-ways (fall-begins e e') unfit)
-
-  no-top-begun : begins mayBeTower ≡ false → topOf s ≡ false
-  unfolding topOf
-  no-top-begun unfit =
-      fails top-ends (everyOf (λ x. lt (maxOf (f .«open») c) x) (columnOf Low mid))
-      (λ e. simp (last, first, e, and-false))
-      (λ e. simp (last, first, e, and-false))
-      (λ e e'. both-ways (top-begins e e') unfit)
-
-  no-bottom-begun : begins mayBeTower ≡ false → bottomOf s ≡ false
-  unfolding bottomOf
-  no-bottom-begun unfit =
-      fails bottom-ends (everyOf (λ x. lt x (minOf (f .«open») c)) (columnOf High mid))
-      (λ e. simp (last, first, e, and-false))
-      (λ e. simp (last, first, e, and-false))
-      (λ e e'. both-ways (bottom-begins e e') unfit)
-
-  -- where it fails, the window has no label
-  unbegun : (shape : Shape) → begins (mayBegin shape) ≡ false → checkOf shape s ≡ Other
-  unfolding threeMethods tower
-  unbegun ThreeMethods unfit = simp (no-rise-begun unfit, no-fall-begun unfit)
-  unbegun Tower unfit = simp (no-top-begun unfit, no-bottom-begun unfit)
-
--- a window of 5 bars or more without what the code tests has no label; with fewer bars the code looks at it
-pub no-window : (shape : Shape) (w : List Bar) (n : ℕ) → 5 ≤ n
-    → (ltb (length w) 5 || mayBegin shape (backOf w n) (backOf w 1) (backOf w 2) (backOf w 3) (backOf w 4)) ≡ false
-    → checkOf shape (windowOf w 1 n) ≡ Other
-no-window shape w n many unfit =
-    let e = neither (ltb (length w) 5) (mayBegin shape (backOf w n) (backOf w 1) (backOf w 2) (backOf w 3) (backOf w 4)) unfit in
-    unbegun w n (ltb-false (length w) 5 (e .0)) many shape (e .1)
-
--- ---- where the code's test fails, 4 and 17 find nothing
-
-module _ (w : List Bar) (not-may : (ltb (length w) 5 || newestOut w) ≡ false) where
-  long-and-in : (5 ≤ length w) × (newestOut w ≡ false)
-  long-and-in = let e = neither (ltb (length w) 5) (newestOut w) not-may in (ltb-false (length w) 5 (e .0), e .1)
-
-  pub no-three-methods : sanFaV20221118 w ≡ pairA
-  unfolding sanFaV20221118
-  no-three-methods = match-none threeMethods w (λ n h. no-methods w n (long-and-in .0) h (long-and-in .1)) 4 5 (omega arith)
-
-  pub no-towers : taXing w ≡ pairA
-  unfolding taXing
-  no-towers = match-none tower w (λ n h. no-tower w n (long-and-in .0) h (long-and-in .1)) 5 5 (omega arith)
+-- where the code's first test fails, neither finds anything
+pub no-growing : (w : List Bar) → (ltb (length w) 5 || standsOut (backOf w 1) (backOf w 2) (backOf w 3) (backOf w 4)) ≡ false → growingOf w ≡ noMatch
+unfolding firstMatch
+no-growing w not-may =
+    let e = neither (ltb (length w) 5) (standsOut (backOf w 1) (backOf w 2) (backOf w 3) (backOf w 4)) not-may in
+    let out = out-of-three (backOf w 1) (backOf w 2) (backOf w 3) (backOf w 4) (middleAt w 2) (known-high w 2) (known-low w 2) (e .1) in
+    sym (search-ends w 5 (omega arith) (omega arith) (rw (first-three w (ltb-false (length w) 5 (e .0))) out))

@@ -2,3 +2,5 @@
 pub mod BodyOrder
 pub mod GrowingLaws
 pub mod GrowingNeeds
+pub mod MiddleLaws
+pub mod ShapeLaws

@@ -156,23 +156,3 @@ standsOut b1 b2 b3 b4 =
     let c = b1 .close in
     lt (b1 .«open») c && not (lt c (b2 .high)) && not (lt c (b3 .high)) && not (lt c (b4 .high))
     || lt c (b1 .«open») && not (lt (b2 .low) c) && not (lt (b3 .low) c) && not (lt (b4 .low) c)
-
--- and, before it looks at a window, of the window's first bar and the newest four: the ends, and that no close of the three before the newest
--- lies beyond the first's close (4), or no low, no high of them beyond its open (17)
-unfoldable pub mayBeMethods : Bar → Bar → Bar → Bar → Bar → Bool
-mayBeMethods first b1 b2 b3 b4 =
-    let c = first .close in
-    (lt (b1 .«open») (b1 .close) && lt (first .«open») c && lt (first .high) (b1 .close))
-    && (not (lt c (b2 .close)) && not (lt c (b3 .close)) && not (lt c (b4 .close)))
-    || (lt (b1 .close) (b1 .«open») && lt c (first .«open») && lt (b1 .close) (first .low))
-    && (not (lt (b2 .close) c) && not (lt (b3 .close) c) && not (lt (b4 .close) c))
-
-unfoldable pub mayBeTower : Bar → Bar → Bar → Bar → Bar → Bool
-mayBeTower first b1 b2 b3 b4 =
-    let o = first .«open» in
-    (lt o (first .close) && lt (b1 .close) (b1 .«open»)) && (not (lt (b2 .low) o) && not (lt (b3 .low) o) && not (lt (b4 .low) o))
-    || (lt (first .close) o && lt (b1 .«open») (b1 .close)) && (not (lt o (b2 .high)) && not (lt o (b3 .high)) && not (lt o (b4 .high)))
-
-abbrev pub mayBegin : Shape → Bar → Bar → Bar → Bar → Bar → Bool
-mayBegin ThreeMethods = mayBeMethods
-mayBegin Tower = mayBeTower

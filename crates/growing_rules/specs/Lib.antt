@@ -1,1 +1,2 @@
 pub mod GrowingRule
+pub mod Middle

@@ -2,22 +2,28 @@
 // All is proved, nothing is assumed, and no public function has a `requires`: each contract is an equation with a definition of specs/,
 // for every input.
 ghost use mathlib.Core.Path.{_≡_};
-ghost use Prim.Native.Nat.{_-_, _≤_, _<_};
-ghost use mathlib.Core.Bool.{_||_};
+ghost use Prim.Native.Nat.{_+_, _-_, _≤_, _<_};
+ghost use mathlib.Core.Bool.{true, _&&_, _||_};
 ghost use mathlib.Core.List.{[]};
 ghost use lib.Dec.{ltb};
 ghost use lib.ListN.{length};
 ghost use Rattle.measures.specs.Bar.{barsOf};
 ghost use Rattle.measures.specs.Window.{backOf, windowOf};
-ghost use Rattle.growing_rules.specs.GrowingRule.{sizeLabel, firstMatch, firstOf, lastOf, innerOf, risesOf, fallsOf, threeMethods, sanFaV20221118, leadersOf, joined, endsLead, topOf, bottomOf, tower as towerOf, checkOf, taXing, growingOf, standsOut, mayBeMethods, mayBeTower, mayBegin};
+ghost use Rattle.growing_rules.specs.declared.Shape.the-variants as shapes;
+ghost use Rattle.growing_rules.specs.GrowingRule.{sizeLabel, firstMatch, firstOf, lastOf, innerOf, threeMethods, sanFaV20221118, leadersOf, joined, endsLead, tower as towerOf, checkOf, taXing, growingOf, standsOut};
+ghost use Rattle.growing_rules.specs.Middle.{middleOf, middleAt, mayRise, mayFall, mayBeTop, mayBeBottom, mayBe, beyond as beyondOf, noMatch, searchedOf};
 use measures::Bar;
 use measures::Column;
-use measures::Test;
+use middle::Middle;
+use middle::first_middle;
+use middle::grow;
 use rule_types::label::Label;
 use rule_types::label::Pair;
 use rule_types::label::code;
 use rule_types::label::pair_a;
 use rule_types::label::pick;
+
+pub mod middle;
 
 // What a window is tried for, where the source has a closure.
 pub enum Shape {
@@ -67,55 +73,57 @@ fn inner(s: &[f64]) -> &[f64]
     measures::last_bars(s, 2, minus(measures::count(s), 2))
 }
 
-// 4: san_fa_v20221118. The ends are tested before the bars between them are folded, and these fold by fold.
+// 4: san_fa_v20221118. What the ends and the middle's extremes answer is tested before the closes are folded.
 
-fn rises(s: &[f64]) -> bool
-    ensures { λ r. ⌜ r ≡ risesOf (barsOf (now (s .entry))) ⌝ }
+fn may_rise(first: Bar, last: Bar, m: Middle) -> bool
+    ensures { λ r. ⌜ r ≡ mayRise first last m ⌝ }
 {
-    let first = first_bar(s);
-    let last = last_bar(s);
-    let ends = (last.close > last.open) & (first.close > first.open) & (last.close > first.high);
-    if ends {
-        let mid = inner(s);
-        let hhv = measures::highest(mid, Column::High);
-        let between = (last.close > hhv) & (hhv > first.high);
-        if between {
-            return (measures::lowest(mid, Column::Low) > first.open)
-                & (first.close > measures::highest(mid, Column::Close));
-        }
-    }
-    false
+    (last.close > last.open)
+        & (first.close > first.open)
+        & (last.close > first.high)
+        & (last.close > m.highest)
+        & (m.highest > first.high)
+        & (m.lowest > first.open)
 }
 
-fn falls(s: &[f64]) -> bool
-    ensures { λ r. ⌜ r ≡ fallsOf (barsOf (now (s .entry))) ⌝ }
+fn may_fall(first: Bar, last: Bar, m: Middle) -> bool
+    ensures { λ r. ⌜ r ≡ mayFall first last m ⌝ }
 {
-    let first = first_bar(s);
-    let last = last_bar(s);
-    let ends = (last.close < last.open) & (first.close < first.open) & (last.close < first.low);
-    if ends {
-        let mid = inner(s);
-        let llv = measures::lowest(mid, Column::Low);
-        let between = (first.low > llv) & (llv > last.close);
-        if between {
-            return (measures::highest(mid, Column::High) < first.open)
-                & (first.close < measures::lowest(mid, Column::Close));
-        }
+    (last.close < last.open)
+        & (first.close < first.open)
+        & (last.close < first.low)
+        & (first.low > m.lowest)
+        & (m.lowest > last.close)
+        & (m.highest < first.open)
+}
+
+// The newest bar's side decides which of the two it can be: half of the tests, and the same for all windows.
+fn may_be_methods(first: Bar, last: Bar, m: Middle) -> bool
+    ensures { λ r. ⌜ r ≡ mayBe shapes.ThreeMethods first last m ⌝ }
+{
+    if last.close > last.open {
+        may_rise(first, last, m)
+    } else {
+        may_fall(first, last, m)
     }
-    false
 }
 
 fn three_methods(s: &[f64]) -> Label
+    requires { ⌜ mayBe shapes.ThreeMethods (firstOf (barsOf (now s))) (lastOf (barsOf (now s))) (middleOf (innerOf (barsOf (now s)))) ≡ true ⌝ }
     ensures { λ r. ⌜ r ≡ threeMethods (barsOf (now (s .entry))) ⌝ }
 {
-    pick(
-        rises(s),
-        Label::RisingThreeMethods,
-        pick(falls(s), Label::FallingThreeMethods, Label::Other),
-    )
+    let first = first_bar(s);
+    let last = last_bar(s);
+    if last.close > last.open {
+        let below = first.close > measures::highest(inner(s), Column::Close);
+        pick(below, Label::RisingThreeMethods, Label::Other)
+    } else {
+        let above = first.close < measures::lowest(inner(s), Column::Close);
+        pick(above, Label::FallingThreeMethods, Label::Other)
+    }
 }
 
-// 17: ta_xing. The ends are tested before the bars between them, and these before the bodies are scanned, which costs the most.
+// 17: ta_xing. What the ends and the middle's extremes answer is tested before the bodies are scanned, which costs the most.
 
 // The two greatest bodies of a window, and whether no body is NaN.
 pub struct Leaders {
@@ -171,59 +179,59 @@ fn do_ends_lead(s: &[f64]) -> bool
     l.known & (l.second <= measures::min(first, last))
 }
 
-fn is_top(s: &[f64]) -> bool
-    ensures { λ r. ⌜ r ≡ topOf (barsOf (now (s .entry))) ⌝ }
+fn may_be_top(first: Bar, last: Bar, m: Middle) -> bool
+    ensures { λ r. ⌜ r ≡ mayBeTop first last m ⌝ }
 {
-    let first = first_bar(s);
-    let last = last_bar(s);
-    let turns = (first.close > first.open) & (last.close < last.open);
-    if turns {
-        let mid = inner(s);
-        let bound = measures::max(first.open, last.close);
-        let above = measures::every(mid, Column::Low, Test::Above(bound));
-        if above {
-            let lead = do_ends_lead(s);
-            if lead {
-                return measures::variance(mid, Column::High) < 0.5;
-            }
-        }
-    }
-    false
+    (first.close > first.open)
+        & (last.close < last.open)
+        & m.lows
+        & (m.lowest > first.open)
+        & (m.lowest > last.close)
 }
 
-fn is_bottom(s: &[f64]) -> bool
-    ensures { λ r. ⌜ r ≡ bottomOf (barsOf (now (s .entry))) ⌝ }
+fn may_be_bottom(first: Bar, last: Bar, m: Middle) -> bool
+    ensures { λ r. ⌜ r ≡ mayBeBottom first last m ⌝ }
 {
-    let first = first_bar(s);
-    let last = last_bar(s);
-    let turns = (first.close < first.open) & (last.close > last.open);
-    if turns {
-        let mid = inner(s);
-        let bound = measures::min(first.open, last.close);
-        let below = measures::every(mid, Column::High, Test::Below(bound));
-        if below {
-            let lead = do_ends_lead(s);
-            if lead {
-                return measures::variance(mid, Column::Low) < 0.5;
-            }
-        }
+    (first.close < first.open)
+        & (last.close > last.open)
+        & m.highs
+        & (m.highest < first.open)
+        & (m.highest < last.close)
+}
+
+fn may_be_tower(first: Bar, last: Bar, m: Middle) -> bool
+    ensures { λ r. ⌜ r ≡ mayBe shapes.Tower first last m ⌝ }
+{
+    if last.close > last.open {
+        may_be_bottom(first, last, m)
+    } else {
+        may_be_top(first, last, m)
     }
-    false
 }
 
 fn tower(s: &[f64]) -> Label
+    requires { ⌜ mayBe shapes.Tower (firstOf (barsOf (now s))) (lastOf (barsOf (now s))) (middleOf (innerOf (barsOf (now s)))) ≡ true ⌝ }
     ensures { λ r. ⌜ r ≡ towerOf (barsOf (now (s .entry))) ⌝ }
 {
-    pick(
-        is_top(s),
-        Label::Top,
-        pick(is_bottom(s), Label::Bottom, Label::Other),
-    )
+    let lead = do_ends_lead(s);
+    if lead {
+        let last = last_bar(s);
+        if last.close > last.open {
+            let level = measures::variance(inner(s), Column::Low) < 0.5;
+            pick(level, Label::Bottom, Label::Other)
+        } else {
+            let level = measures::variance(inner(s), Column::High) < 0.5;
+            pick(level, Label::Top, Label::Other)
+        }
+    } else {
+        Label::Other
+    }
 }
 
 // Both
 
 fn check(shape: Shape, s: &[f64]) -> Label
+    requires { ⌜ mayBe shape (firstOf (barsOf (now s))) (lastOf (barsOf (now s))) (middleOf (innerOf (barsOf (now s)))) ≡ true ⌝ }
     ensures { λ r. ⌜ r ≡ checkOf shape (barsOf (now (s .entry))) ⌝ }
 {
     match shape {
@@ -232,73 +240,24 @@ fn check(shape: Shape, s: &[f64]) -> Label
     }
 }
 
-// What a window of either shape needs of its first bar and of the newest four: most windows fail it, and none of their other bars is read.
-fn may_be_methods(first: Bar, b1: Bar, b2: Bar, b3: Bar, b4: Bar) -> bool
-    ensures { λ r. ⌜ r ≡ mayBeMethods first b1 b2 b3 b4 ⌝ }
+// What is found of a shape with the window of n bars, after the smaller ones: few windows come so far.
+fn find_at(shape: Shape, found: Pair, w: &[f64], n: usize) -> Pair
+    requires { ⌜ (5 ≤ n) × (n < 10) × (found ≡ firstMatch (checkOf shape) (n - 5) 5 (barsOf (now w))) × (mayBe shape (backOf (barsOf (now w)) n) (backOf (barsOf (now w)) 1) (middleAt (barsOf (now w)) n) ≡ true) ⌝ }
+    ensures { λ r. ⌜ r ≡ firstMatch (checkOf shape) (n + 1 - 5) 5 (barsOf (now (w .entry))) ⌝ }
 {
-    let c = first.close;
-    let up = (b1.close > b1.open) & (c > first.open) & (b1.close > first.high);
-    let down = (b1.close < b1.open) & (c < first.open) & (b1.close < first.low);
-    (up & (!(c < b2.close) & !(c < b3.close) & !(c < b4.close)))
-        | (down & (!(b2.close < c) & !(b3.close < c) & !(b4.close < c)))
-}
-
-fn may_be_tower(first: Bar, b1: Bar, b2: Bar, b3: Bar, b4: Bar) -> bool
-    ensures { λ r. ⌜ r ≡ mayBeTower first b1 b2 b3 b4 ⌝ }
-{
-    let o = first.open;
-    let top = (first.close > o) & (b1.close < b1.open);
-    let bottom = (first.close < o) & (b1.close > b1.open);
-    (top & (!(b2.low < o) & !(b3.low < o) & !(b4.low < o)))
-        | (bottom & (!(o < b2.high) & !(o < b3.high) & !(o < b4.high)))
-}
-
-fn may_begin(shape: Shape, first: Bar, b1: Bar, b2: Bar, b3: Bar, b4: Bar) -> bool
-    ensures { λ r. ⌜ r ≡ mayBegin shape first b1 b2 b3 b4 ⌝ }
-{
-    match shape {
-        Shape::ThreeMethods => may_be_methods(first, b1, b2, b3, b4),
-        Shape::Tower => may_be_tower(first, b1, b2, b3, b4),
-    }
-}
-
-// The label of the window of the newest n bars.
-fn try_window(shape: Shape, w: &[f64], n: usize) -> Label
-    requires { ⌜ 5 ≤ n ⌝ }
-    ensures { λ r. ⌜ r ≡ checkOf shape (windowOf (barsOf (now (w .entry))) 1 n) ⌝ }
-{
-    let first = measures::back(w, n);
-    let b1 = measures::back(w, 1);
-    let b2 = measures::back(w, 2);
-    let b3 = measures::back(w, 3);
-    let b4 = measures::back(w, 4);
-    let may = (measures::count(w) < 5) | may_begin(shape, first, b1, b2, b3, b4);
-    if may {
-        check(shape, measures::last_bars(w, 1, n))
-    } else {
-        Label::Other
-    }
-}
-
-// Windows of 5 bars and up are tried, k of them; the first match gives the label.
-fn first_match(shape: Shape, k: usize, w: &[f64]) -> Pair
-    requires { ⌜ k ≤ 5 ⌝ }
-    ensures { λ r. ⌜ r ≡ firstMatch (checkOf shape) k 5 (barsOf (now (w .entry))) ⌝ }
-{
-    let to = 5 + k;
-    let mut n = 5;
-    while n < to {
-        let t = try_window(shape, w, n);
-        let found = code(t);
-        if found != 0 {
+    let v1 = found.v1;
+    let before = code(v1);
+    if before == 0 {
+        let t = check(shape, measures::last_bars(w, 1, n));
+        let now = code(t);
+        if now != 0 {
             return Pair {
                 v1: t,
                 v2: size_label(n),
             };
         }
-        n += 1;
     }
-    pair_a()
+    found
 }
 
 // Whether the newest bar rises and no high of the three before it is above its close, or it falls and no low is below it.
@@ -323,12 +282,97 @@ fn may_match(w: &[f64]) -> bool
     (measures::count(w) < 5) | stands_out(b1, b2, b3, b4)
 }
 
+// Whether the newest bar's close is still beyond the middle: where it is not, no longer window matches.
+fn is_beyond(last: Bar, m: Middle) -> bool
+    ensures { λ r. ⌜ r ≡ beyondOf last m ⌝ }
+{
+    if last.close > last.open {
+        last.close > m.highest
+    } else {
+        (last.close < last.open) & (last.close < m.lowest)
+    }
+}
+
+// The pairs of 4 and 17 over the same window.
+pub struct Growing {
+    pub methods: Pair,
+    pub tower: Pair,
+}
+
+fn no_match() -> Growing
+    ensures { λ r. ⌜ r ≡ noMatch ⌝ }
+{
+    let none = pair_a();
+    Growing {
+        methods: none,
+        tower: none,
+    }
+}
+
+// What is found with the window of n bars, after the smaller ones. Both recognisers' tests are made before either goes on: a call between
+// them would cost the values that both read.
+fn methods_at(found: Pair, w: &[f64], n: usize, may: bool) -> Pair
+    requires { ⌜ (5 ≤ n) × (n < 10) × (found ≡ searchedOf (barsOf (now w)) n .methods) × (may ≡ (ltb n 9 && mayBe shapes.ThreeMethods (backOf (barsOf (now w)) n) (backOf (barsOf (now w)) 1) (middleAt (barsOf (now w)) n))) ⌝ }
+    ensures { λ r. ⌜ r ≡ searchedOf (barsOf (now (w .entry))) (n + 1) .methods ⌝ }
+{
+    if may {
+        find_at(Shape::ThreeMethods, found, w, n)
+    } else {
+        found
+    }
+}
+
+fn tower_at(found: Pair, w: &[f64], n: usize, may: bool) -> Pair
+    requires { ⌜ (5 ≤ n) × (n < 10) × (found ≡ searchedOf (barsOf (now w)) n .tower) × (may ≡ mayBe shapes.Tower (backOf (barsOf (now w)) n) (backOf (barsOf (now w)) 1) (middleAt (barsOf (now w)) n)) ⌝ }
+    ensures { λ r. ⌜ r ≡ searchedOf (barsOf (now (w .entry))) (n + 1) .tower ⌝ }
+{
+    if may {
+        find_at(Shape::Tower, found, w, n)
+    } else {
+        found
+    }
+}
+
+fn try_window(found: Growing, w: &[f64], n: usize, m: Middle) -> Growing
+    requires { ⌜ (5 ≤ n) × (n < 10) × (found ≡ searchedOf (barsOf (now w)) n) × (m ≡ middleAt (barsOf (now w)) n) ⌝ }
+    ensures { λ r. ⌜ r ≡ searchedOf (barsOf (now (w .entry))) (n + 1) ⌝ }
+{
+    let first = measures::back(w, n);
+    let last = measures::back(w, 1);
+    let four = (n < 9) & may_be_methods(first, last, m);
+    let seventeen = may_be_tower(first, last, m);
+    let methods = methods_at(found.methods, w, n, four);
+    let tower = tower_at(found.tower, w, n, seventeen);
+    Growing { methods, tower }
+}
+
+// The search over the windows of 5 to 9 bars, for both recognisers: each bar of the middle enters its extremes once.
+fn search(w: &[f64]) -> Growing
+    ensures { λ r. ⌜ r ≡ growingOf (barsOf (now (w .entry))) ⌝ }
+{
+    let last = measures::back(w, 1);
+    let mut m = first_middle(w);
+    let mut found = no_match();
+    let mut n = 5;
+    while n < 10 {
+        let beyond = is_beyond(last, m);
+        if !beyond {
+            return found;
+        }
+        found = try_window(found, w, n, m);
+        m = grow(m, w, n);
+        n += 1;
+    }
+    found
+}
+
 pub fn san_fa_v20221118(w: &[f64]) -> Pair
     ensures { λ r. ⌜ r ≡ sanFaV20221118 (barsOf (now (w .entry))) ⌝ }
 {
     let may = may_match(w);
     if may {
-        first_match(Shape::ThreeMethods, 4, w)
+        let found = search(w);
+        found.methods
     } else {
         pair_a()
     }
@@ -339,32 +383,17 @@ pub fn ta_xing(w: &[f64]) -> Pair
 {
     let may = may_match(w);
     if may {
-        first_match(Shape::Tower, 5, w)
+        let found = search(w);
+        found.tower
     } else {
         pair_a()
     }
 }
 
-// The pairs of 4 and 17 over the same window.
-pub struct Growing {
-    pub methods: Pair,
-    pub tower: Pair,
-}
-
-// Both at once: the test that most bars fail is made once.
+// Both at once.
 pub fn growing_pairs(w: &[f64]) -> Growing
     ensures { λ r. ⌜ r ≡ growingOf (barsOf (now (w .entry))) ⌝ }
 {
     let may = may_match(w);
-    if may {
-        let methods = first_match(Shape::ThreeMethods, 4, w);
-        let tower = first_match(Shape::Tower, 5, w);
-        Growing { methods, tower }
-    } else {
-        let none = pair_a();
-        Growing {
-            methods: none,
-            tower: none,
-        }
-    }
+    if may { search(w) } else { no_match() }
 }

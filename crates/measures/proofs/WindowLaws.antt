@@ -164,7 +164,7 @@ module _ (m : ℕ) (history : List Bar) (di n : ℕ) (h : di + n ≤ m + 1) (g :
       go true e true f = bar-there (ltb-true 0 di e) (leb-true di (length history) f)
 
 -- a window is its own window of its newest bar
-all-of-it : (w : List Bar) (n : ℕ) → length w ≤ n → windowOf w 1 n ≡ w
+pub all-of-it : (w : List Bar) (n : ℕ) → length w ≤ n → windowOf w 1 n ≡ w
 unfolding windowOf newest
 all-of-it w n h =
     let f : length w - n ≡ 0 = omega arith in

@@ -9,8 +9,6 @@ use Rattle.measures.specs.declared.folds.Column.{Column}
 use Rattle.measures.specs.declared.folds.Column.the-variants.{Open, Close, High, Low}
 use Rattle.measures.specs.declared.folds.Fold.{Fold}
 use Rattle.measures.specs.declared.folds.Fold.the-variants.{Highest, Lowest, Sum, Squares}
-use Rattle.measures.specs.declared.folds.Test.{Test}
-use Rattle.measures.specs.declared.folds.Test.the-variants.{Above, Below}
 use Rattle.measures.specs.declared.folds.Extremes.{Extremes}
 use Rattle.prices.specs.Price.{zero, aQuarter, maxOf, minOf, squareOf}
 
@@ -54,15 +52,11 @@ meanOf xs = div binary64 (sumOf xs) (sizeOf xs)
 unfoldable pub varianceOf : List Float → Float
 varianceOf xs = div binary64 (sumOf (map (λ x. squareOf (sub binary64 x (meanOf xs))) xs)) (sizeOf xs)
 
--- ---- tests of every price
+-- ---- a test of every price
 
 unfoldable pub everyOf : (Float → Bool) → List Float → Bool
 everyOf t [] = true
 everyOf t (x ∷ xs) = t x && everyOf t xs
-
-abbrev pub testOf : Test → Float → Bool
-testOf (Above bound) x = lt bound x
-testOf (Below bound) x = lt x bound
 
 -- ---- quarter
 

@@ -2,7 +2,7 @@
 ghost use mathlib.Core.Path.{_≡_};
 ghost use mathlib.Core.List.{[], _∷_, foldl};
 ghost use Rattle.prices.specs.Bar.{barsOf};
-ghost use Rattle.measures.specs.Fold.{priceOf, columnOf, stepOf, highestOf, lowestOf, sizeOf, meanOf, varianceOf, testOf, everyOf, extremesOf, lowSide, highSide};
+ghost use Rattle.measures.specs.Fold.{priceOf, columnOf, stepOf, highestOf, lowestOf, sizeOf, meanOf, varianceOf, extremesOf, lowSide, highSide};
 use crate::windows::bar_at;
 use crate::windows::count;
 use prices::bars::Bar;
@@ -23,12 +23,6 @@ pub enum Fold {
     Sum,
     // the sum of squares about a mean
     Squares(f64),
-}
-
-// What a price is tested for.
-pub enum Test {
-    Above(f64),
-    Below(f64),
 }
 
 // The price of a bar in a column.
@@ -109,29 +103,6 @@ pub fn pair_variance(x: f64, y: f64) -> f64
 {
     let mean = (0.0 + x + y) / 2.0;
     (0.0 + price::square(x - mean) + price::square(y - mean)) / 2.0
-}
-
-fn passes(t: Test, x: f64) -> bool
-    ensures { λ r. ⌜ r ≡ testOf t x ⌝ }
-{
-    match t {
-        Test::Above(bound) => x > bound,
-        Test::Below(bound) => x < bound,
-    }
-}
-
-// Whether every price of a column of a run passes a test.
-pub fn every(prices: &[f64], c: Column, t: Test) -> bool
-    ensures { λ r. ⌜ r ≡ everyOf (testOf t) (columnOf c (barsOf (now (prices .entry)))) ⌝ }
-{
-    let n = count(prices);
-    let mut ok = true;
-    let mut i = 0;
-    while i < n {
-        ok = ok & passes(t, price_in(bar_at(prices, i), c));
-        i += 1;
-    }
-    ok
 }
 
 // The highest high and the lowest low of a run of bars.

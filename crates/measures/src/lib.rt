@@ -6,8 +6,6 @@ pub mod windows;
 
 pub use folds::Column;
 pub use folds::Extremes;
-pub use folds::Test;
-pub use folds::every;
 pub use folds::extremes_of;
 pub use folds::highest;
 pub use folds::in_high_side;

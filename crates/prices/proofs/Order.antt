@@ -144,6 +144,13 @@ module _ (less : Float → Float → Bool) (o : Order less) where
   with-nan (inf s) = simp (o .nan-right (inf s))
   with-nan (fin s m e) = simp (o .nan-right (fin s m e))
 
+  less-known : (x y : Float) → less x y ≡ true → isNan y ≡ false
+  less-known x y e = go (isNan y) refl
+    where
+      go : (t : Bool) → isNan y ≡ t → t ≡ false
+      go true h = absurd (no-two (less x y) e (rw (is-nan y h) (o .nan-right x)))
+      go false h = refl
+
   takes : (a b : Float) → less a b ≡ true → isNan a ≡ false → foremost less a b ≡ b
   takes a b h k = simp (k, h)
 
@@ -195,6 +202,18 @@ module _ (less : Float → Float → Bool) (o : Order less) where
       go true g e = trans a b z l g (rw (takes a b g k) at e)
       go false g e = rw (stays a b g k) at e
 
+  -- and the other way round: what both of two known values are less than, the foremost of them is less than
+  both : (a b z : Float) → isNan a ≡ false → isNan b ≡ false → less (foremost less a b) z ≡ (less a z && less b z)
+  both a b z ka kb = go (less a b) refl (less a z) refl (less b z) refl
+    where
+      go : (t : Bool) → less a b ≡ t → (u : Bool) → less a z ≡ u → (v : Bool) → less b z ≡ v → less (foremost less a b) z ≡ (less a z && less b z)
+      go true h true g v f = rw (takes a b h ka) (simp g)
+      go true h false g true f = absurd (no-two (less a z) (trans a b z (less-known b z f) h f) g)
+      go true h false g false f = rw (takes a b h ka) (simp (g, f))
+      go false h true g true f = rw (stays a b h ka) (simp (g, f))
+      go false h true g false f = absurd (no-two (less b z) (o .split a b z kb g h) f)
+      go false h false g v f = rw (stays a b h ka) (simp g)
+
   -- the foremost of a known value and another is the first, or the other that is foremost of both
   either : (P : Float → Type 0) (a b : Float) → isNan a ≡ false → P a → (less a b ≡ true → P b) → P (foremost less a b)
   either P a b k p f = go (less a b) refl
@@ -212,13 +231,6 @@ module _ (less : Float → Float → Bool) (o : Order less) where
 
   stays-known : (a b : Float) → isNan a ≡ false → isNan (foremost less a b) ≡ false
   stays-known a b k = either (λ (z : Float). isNan z ≡ false) a b k k (λ e. less-known a b e)
-    where
-      less-known : (x y : Float) → less x y ≡ true → isNan y ≡ false
-      less-known x y e = go (isNan y) refl
-        where
-          go : (t : Bool) → isNan y ≡ t → t ≡ false
-          go true h = absurd (no-two (less x y) e (rw (is-nan y h) (o .nan-right x)))
-          go false h = refl
 
 back-split : (x y z : Float) → isNan y ≡ false → lt z x ≡ true → lt y x ≡ false → lt z y ≡ true
 back-split x y z k h g = go (lt z y) refl
@@ -256,6 +268,15 @@ max-second = second lt rising
 pub min-second : (a b z : Float) → isNan b ≡ false → lt z (minOf a b) ≡ true → lt z b ≡ true
 unfolding minOf
 min-second = second (λ x y. lt y x) falling
+
+-- the larger of two known values is below z if both are; the smaller is above z if both are
+pub max-both : (a b z : Float) → isNan a ≡ false → isNan b ≡ false → lt (maxOf a b) z ≡ (lt a z && lt b z)
+unfolding maxOf
+max-both = both lt rising
+
+pub min-both : (a b z : Float) → isNan a ≡ false → isNan b ≡ false → lt z (minOf a b) ≡ (lt z a && lt z b)
+unfolding minOf
+min-both = both (λ x y. lt y x) falling
 
 pub max-known : (a b : Float) → isNan b ≡ false → isNan (maxOf a b) ≡ false
 unfolding maxOf

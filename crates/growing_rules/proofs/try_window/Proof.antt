@@ -1,39 +1,24 @@
--- Where the test fails the window has no label. Assumes nothing.
-use mathlib.Core.Path.{sym, _∙_}
-use Rattle.measures.specs.Bar.{barsOf}
-use Rattle.growing_rules.proofs.GrowingNeeds.{no-window}
+-- Each recogniser's test is of the window's ends and its middle's extremes. Assumes nothing.
+use mathlib.Core.Path.{_≡_, ap}
+use Rattle.growing_rules.specs.declared.Growing.{Growing}
 use Rattle.growing_rules.proofs.try_window.Statement.{statement}
 use Rattle.growing_rules.proofs.try_window.Tie as tie
 
-returns : tie.Need-returns
-returns c = simp (c .check .ensures, c .before .last-bars .ensures .1)
-
-returns-2 : tie.Need-returns-2
-returns-2 c =
+methods-at-requires : tie.Need-methods-at-requires
+methods-at-requires c κs =
     let test = c .before in
-    let counted = test .before in
-    let fourth = counted .before in
-    let third = fourth .before in
-    let second = third .before in
-    let newest = second .before in
-    let oldest = newest .before in
-    let args = oldest .before .before .args in
-    let w = barsOf (args .w .now) in
-    let unfit = simp (test .may-begin .ensures, counted .count .ensures, fourth .back5 .ensures, third .back4 .ensures, second .back3 .ensures, newest .back2 .ensures, oldest .back .ensures) at (c .if1 .left) in
-    sym (no-window (args .shape) w (args .n) (oldest .before .before .pre) unfit)
+    let start = test .before .before .before .before in
+    (start .pre .0, start .pre .1, rw (start .pre .2), simp (test .may-be-methods .ensures, test .before .back2 .ensures, test .before .before .back .ensures, start .pre .3))
+
+tower-at-requires : tie.Need-tower-at-requires
+tower-at-requires c κs =
+    let test = c .before in
+    let read = test .before .before in
+    let start = read .before .before .before in
+    (start .pre .0, start .pre .1, rw (start .pre .2), simp (test .may-be-tower .ensures, read .back2 .ensures, read .before .back .ensures, start .pre .3))
+
+returns : tie.Need-returns
+returns c = rw (c .tower-at .ensures, c .before .methods-at .ensures)
 
 pub try-window-spec : {M : Type 1} → statement M
-try-window-spec =
-    tie.close
-    (tie.spec
-    (λ c κs. tt)
-    (λ c κs. tt)
-    (λ c κs. tt)
-    (λ c κs. tt)
-    (λ c κs. tt)
-    (λ c κs. tt)
-    (λ c κs. tt)
-    (λ c κs. tt)
-    (λ c κs. tt)
-    returns
-    returns-2)
+try-window-spec = tie.close (tie.spec (λ c κs. tt) (λ c κs. tt) (λ c κs. tt) (λ c κs. tt) methods-at-requires tower-at-requires returns)

@@ -1,0 +1,84 @@
+-- 02, P2: the extremes of a window's middle, the bars between its first and its last, which run along as the window grows; and what the code
+-- asks of them.
+use Prim.Native.Nat.{ℕ, _-_, min}
+use mathlib.Core.Bool.{Bool, not, _&&_, _||_}
+use mathlib.Core.List.{List}
+use lib.Ieee.{Float, lt, isNan}
+use Rattle.measures.specs.Bar.{Bar}
+use Rattle.measures.specs.declared.folds.Column.the-variants.{High, Low}
+use Rattle.measures.specs.Price.{maxOf, minOf}
+use Rattle.measures.specs.Window.{windowOf}
+use Rattle.measures.specs.Fold.{columnOf, highestOf, lowestOf, everyOf}
+use Rattle.rule_types.specs.Label.{pairA}
+use Rattle.growing_rules.specs.declared.Growing.{Growing}
+use Rattle.growing_rules.specs.declared.Shape.{Shape}
+use Rattle.growing_rules.specs.declared.Shape.the-variants.{ThreeMethods, Tower}
+use Rattle.growing_rules.specs.declared.middle.Middle.{Middle}
+use Rattle.growing_rules.specs.GrowingRule.{firstMatch, innerOf, threeMethods, tower}
+
+-- ---- the running extremes
+
+-- the highest high and the lowest low by 01's folds, which pass NaN over; and whether no high, no low is NaN
+unfoldable pub middleOf : List Bar → Middle
+middleOf mid = record {
+  highest = highestOf (columnOf High mid);
+  lowest = lowestOf (columnOf Low mid);
+  highs = everyOf (λ x. not (isNan x)) (columnOf High mid);
+  lows = everyOf (λ x. not (isNan x)) (columnOf Low mid);
+}
+
+-- a bar enters that is older than those of the middle: its prices are the first arguments
+unfoldable pub entered : Bar → Middle → Middle
+entered b m = record {
+  highest = maxOf (b .high) (m .highest);
+  lowest = minOf (b .low) (m .lowest);
+  highs = not (isNan (b .high)) && m .highs;
+  lows = not (isNan (b .low)) && m .lows;
+}
+
+-- at the size of n bars
+unfoldable pub middleAt : List Bar → ℕ → Middle
+middleAt w n = middleOf (innerOf (windowOf w 1 n))
+
+-- ---- what a window needs of its ends and of these extremes: all that 4 asks but for the closes, all that 17 asks but for the bodies and the
+-- variance
+
+unfoldable pub mayRise : Bar → Bar → Middle → Bool
+mayRise first last m =
+    lt (last .«open») (last .close) && lt (first .«open») (first .close) && lt (first .high) (last .close)
+    && lt (m .highest) (last .close) && lt (first .high) (m .highest) && lt (first .«open») (m .lowest)
+
+unfoldable pub mayFall : Bar → Bar → Middle → Bool
+mayFall first last m =
+    lt (last .close) (last .«open») && lt (first .close) (first .«open») && lt (last .close) (first .low)
+    && lt (m .lowest) (first .low) && lt (last .close) (m .lowest) && lt (m .highest) (first .«open»)
+
+-- every low is above a bound if none is NaN and the lowest is above it, and a bound that is the larger of two is both of them
+unfoldable pub mayBeTop : Bar → Bar → Middle → Bool
+mayBeTop first last m =
+    lt (first .«open») (first .close) && lt (last .close) (last .«open»)
+    && m .lows && lt (first .«open») (m .lowest) && lt (last .close) (m .lowest)
+
+unfoldable pub mayBeBottom : Bar → Bar → Middle → Bool
+mayBeBottom first last m =
+    lt (first .close) (first .«open») && lt (last .«open») (last .close)
+    && m .highs && lt (m .highest) (first .«open») && lt (m .highest) (last .close)
+
+abbrev pub mayBe : Shape → Bar → Bar → Middle → Bool
+mayBe ThreeMethods first last m = mayRise first last m || mayFall first last m
+mayBe Tower first last m = mayBeTop first last m || mayBeBottom first last m
+
+-- ---- the search
+
+-- whether the newest bar rises to a close above the middle's highest, or falls to one below its lowest: no window matches otherwise, and no
+-- longer one
+unfoldable pub beyond : Bar → Middle → Bool
+beyond last m = lt (last .«open») (last .close) && lt (m .highest) (last .close) || lt (last .close) (last .«open») && lt (last .close) (m .lowest)
+
+-- nothing is found
+abbrev pub noMatch : Growing
+noMatch = record { methods = pairA; tower = pairA }
+
+-- what is found in the windows of fewer than n bars, of which 4 tries those of 5 to 8 and 17 those of 5 to 9
+abbrev pub searchedOf : List Bar → ℕ → Growing
+searchedOf w n = record { methods = firstMatch threeMethods (min n 9 - 5) 5 w; tower = firstMatch tower (n - 5) 5 w }
