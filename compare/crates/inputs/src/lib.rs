@@ -9,6 +9,7 @@ pub mod histories;
 pub mod hostile;
 pub mod known;
 pub mod list;
+pub mod long_middles;
 pub mod looks;
 pub mod pairs;
 pub mod planted;

@@ -25,6 +25,14 @@ impl Walk {
         }
     }
 
+    /// The same with a gap before every bar.
+    pub fn gapped() -> Walk {
+        Walk {
+            jump: 1,
+            ..Walk::market()
+        }
+    }
+
     pub fn random(rng: &mut Rng) -> Walk {
         Walk {
             price: rng.pick(&[1.0, 10.0, 100.0, 3000.0]),
@@ -35,7 +43,7 @@ impl Walk {
     }
 
     pub fn bar(&mut self, rng: &mut Rng) -> Bar {
-        let reach = self.price * self.step;
+        let reach = self.reach();
         let mut open = self.price;
         if rng.one_in(self.jump) {
             open += rng.real(-reach, reach);
@@ -43,7 +51,22 @@ impl Walk {
         let close = open + rng.real(-reach, reach);
         let high = open.max(close) + shadow(rng, reach);
         let low = open.min(close) - shadow(rng, reach);
-        let bar = Bar::from_prices([open, close, high, low].map(|price| self.round(price)));
+        self.lay([open, close, high, low])
+    }
+
+    /// Where the next bar starts from.
+    pub fn price(&self) -> f64 {
+        self.price
+    }
+
+    /// How far it may move.
+    pub fn reach(&self) -> f64 {
+        self.price * self.step
+    }
+
+    /// A bar of these prices, rounded; the walk goes on from it.
+    pub fn lay(&mut self, prices: [f64; 4]) -> Bar {
+        let bar = Bar::from_prices(prices.map(|price| self.round(price)));
         self.price = self.held(bar.close);
         bar
     }
