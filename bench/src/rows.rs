@@ -1,9 +1,9 @@
 //! What is measured: a name and a closure that labels the first bars of the walk and writes the
 //! labels into a sheet, 36 bytes a bar.
 
-use jcc_types::{BAR_BYTES, BAR_PRICES, Bar, KEPT, RECOGNISERS, ROW_BYTES, Thresholds};
+use jcc_types::{BAR_BYTES, BAR_PRICES, Bar, KEPT, RECOGNISERS, ROW_BYTES};
+use measure::{feed, sizes, thresholds};
 use oracle::Oracle;
-use std::hint::black_box;
 
 /// The bars of the rows that label by plain calls: the repository's functions are slow.
 pub const CALLS: usize = 100_000;
@@ -110,11 +110,6 @@ fn feeds(walked: &Walked) -> Vec<Row<'_>> {
     ]
 }
 
-/// The standard set, unknown to the compiler: a caller's thresholds are no constants.
-fn thresholds() -> Thresholds {
-    black_box(Thresholds::STANDARD)
-}
-
 /// Writes a bar's row, each pair as v1 × 256 + v2.
 fn write(row: &mut [u8; ROW_BYTES], mut pair: impl FnMut(usize) -> u32) {
     for k in 0..RECOGNISERS {
@@ -155,17 +150,11 @@ fn exported(bytes: &[u8], most: usize, sheet: &mut [u8]) {
     }
 }
 
-/// Feeds of so many bars.
-fn sizes(size: usize, prices: &[f64]) -> Vec<u32> {
-    vec![size as u32; (prices.len() / BAR_PRICES).div_ceil(size)]
-}
-
 fn plain_box(size: usize, prices: &[f64], sheet: &mut [u8]) {
     let fed = port::feed_in_parts(&thresholds(), &sizes(size, prices), prices, sheet);
     assert!(fed.is_ok(), "the feeds are accepted");
 }
 
 fn fed(size: usize, prices: &[f64], sheet: &mut [u8]) {
-    let refusal = feeds_export::feed(&thresholds(), &sizes(size, prices), prices, sheet);
-    assert_eq!(refusal, 0, "the feeds are accepted");
+    feed(feeds_export::feed, size, prices, sheet);
 }

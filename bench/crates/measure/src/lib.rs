@@ -1,0 +1,69 @@
+//! What the benchmarks of calls and feeds share: their rounds, rates, digests and feeds.
+
+use jcc_types::{BAR_PRICES, ROW_BYTES, Thresholds};
+use std::hint::black_box;
+use std::time::Instant;
+
+/// The seed of the walks.
+pub const SEED: u64 = 1;
+
+/// Million bars a second in the rounds of a row.
+#[derive(Clone, Default)]
+pub struct Rates(Vec<f64>);
+
+impl Rates {
+    /// Times the next round, in which the bars of the sheet are labelled so many times.
+    pub fn round(&mut self, passes: usize, sheet: &mut [u8], mut run: impl FnMut(&mut [u8])) {
+        // No label is left from the round before.
+        sheet.fill(u8::MAX);
+        let start = Instant::now();
+        for _ in 0..passes {
+            run(sheet);
+        }
+        let time = start.elapsed();
+        let bars = sheet.len() / ROW_BYTES * passes;
+        self.0.push(bars as f64 / time.as_secs_f64() / 1e6);
+    }
+
+    pub fn best(&self) -> f64 {
+        self.0.iter().copied().fold(0.0, f64::max)
+    }
+
+    pub fn median(&self) -> f64 {
+        let mut rates = self.0.clone();
+        rates.sort_by(f64::total_cmp);
+        rates[rates.len() / 2]
+    }
+}
+
+pub fn ratio(rate: f64, to: f64) -> String {
+    format!("{:.2}x", rate / to)
+}
+
+/// A hash over all pairs in their order (FNV-1a over words).
+pub fn digest(sheet: &[u8]) -> u64 {
+    let (pairs, _) = sheet.as_chunks();
+    pairs.iter().fold(0xCBF2_9CE4_8422_2325, |hash, pair| {
+        let pair = u16::from_be_bytes(*pair);
+        (hash ^ u64::from(pair)).wrapping_mul(0x0000_0100_0000_01B3)
+    })
+}
+
+/// The standard set, unknown to the compiler: a caller's thresholds are no constants.
+pub fn thresholds() -> Thresholds {
+    black_box(Thresholds::STANDARD)
+}
+
+/// A library's `jcc_feed` as a safe function.
+pub type Feed = fn(&Thresholds, &[u32], &[f64], &mut [u8]) -> u32;
+
+/// Feeds a library the prices, so many bars at a time.
+pub fn feed(library: Feed, size: usize, prices: &[f64], sheet: &mut [u8]) {
+    let refusal = library(&thresholds(), &sizes(size, prices), prices, sheet);
+    assert_eq!(refusal, 0, "the feeds are accepted");
+}
+
+/// Feeds of so many bars.
+pub fn sizes(size: usize, prices: &[f64]) -> Vec<u32> {
+    vec![size as u32; (prices.len() / BAR_PRICES).div_ceil(size)]
+}
