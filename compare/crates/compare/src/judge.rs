@@ -9,6 +9,7 @@ use jcc_types::{Answer, BAR_BYTES, Bar, REFUSED, Thresholds};
 use oracle::Oracle;
 use oracle::corner::Corner;
 use std::fmt::Write;
+use std::iter;
 
 /// A difference, with all that is needed to see it again.
 pub struct Difference(pub String);
@@ -108,7 +109,10 @@ impl Judge {
     /// A difference, shown on the fewest newest bars that have one.
     fn smallest(&mut self, k: usize, offset: u32, case: &Case) -> Difference {
         let all = case.bars.len();
-        for count in 0..=all {
+        // Fewer bars than the offset are like none: they are not tried one by one, which for the
+        // longest history would take hours.
+        let judged = all.min(offset as usize);
+        for count in iter::once(0).chain(judged..=all) {
             let mut part = case.clone();
             part.bars.drain(..all - count);
             self.hand_over(&part);
