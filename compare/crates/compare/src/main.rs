@@ -8,6 +8,7 @@ mod tally;
 mod work;
 
 use inputs::grids::GRIDS;
+use inputs::middles::{self, Window};
 use judge::{Difference, Judge};
 use options::Options;
 use std::process::ExitCode;
@@ -37,6 +38,12 @@ fn compare(options: &Options) -> Result<(), String> {
     for grid in &GRIDS {
         println!("exhaustive: {}, {} histories", grid.name, grid.size());
     }
+    let windows = middles::windows();
+    let histories: usize = windows.iter().map(Window::histories).sum();
+    println!(
+        "exhaustive: middles of {} windows, {histories} histories",
+        windows.len()
+    );
     let start = Instant::now();
     let (judges, difference) = parts::run(&work::all(options), Judge::new, Work::run);
     if let Some(Difference(text)) = difference {

@@ -4,17 +4,19 @@ use crate::judge::{Difference, Judge};
 use crate::options::Options;
 use inputs::families::{FAMILIES, LONG};
 use inputs::grids::{GRIDS, Grid};
+use inputs::middles::{self, Window};
 use inputs::rng::Rng;
 use inputs::{Case, known, refusals, walk};
 use jcc_types::{BAR_BYTES, Bar, MAX_BARS, RECOGNISERS};
 use std::ops::Range;
 
 /// The families after the random ones.
-const OTHERS: [&str; 4] = ["signalling", "exhaustive", "refusals", "known"];
+const OTHERS: [&str; 5] = ["signalling", "exhaustive", "middles", "refusals", "known"];
 const SIGNALLING: usize = FAMILIES.len();
 const EXHAUSTIVE: usize = SIGNALLING + 1;
-const REFUSALS: usize = SIGNALLING + 2;
-const KNOWN: usize = SIGNALLING + 3;
+const MIDDLES: usize = SIGNALLING + 2;
+const REFUSALS: usize = SIGNALLING + 3;
+const KNOWN: usize = SIGNALLING + 4;
 
 pub fn family_names() -> impl Iterator<Item = &'static str> {
     FAMILIES.iter().map(|f| f.name).chain(OTHERS)
@@ -42,6 +44,11 @@ pub enum Work {
     /// As many bars as there may be, judged by the repository.
     MostBars,
     Grid(&'static Grid, Range<usize>),
+    Middles {
+        window: Window,
+        part: u64,
+        seed: u64,
+    },
     Random {
         family: usize,
         part: u64,
@@ -54,6 +61,7 @@ pub enum Work {
 pub fn all(options: &Options) -> Vec<Work> {
     let mut parts = vec![Work::Known, Work::Refusals, Work::MostBars];
     parts.extend(random_parts(options, 0..1));
+    parts.extend(middle_parts(options));
     for grid in &GRIDS {
         for start in (0..grid.size()).step_by(PART_HISTORIES) {
             let end = grid.size().min(start + PART_HISTORIES);
@@ -62,6 +70,16 @@ pub fn all(options: &Options) -> Vec<Work> {
     }
     parts.extend(random_parts(options, 1..u64::MAX));
     parts
+}
+
+/// A part for each window of the middles.
+fn middle_parts(options: &Options) -> impl Iterator<Item = Work> {
+    let part = |(part, window)| Work::Middles {
+        window,
+        part,
+        seed: options.seed,
+    };
+    (0..).zip(middles::windows()).map(part)
 }
 
 /// The parts of all random families whose numbers are in a range.
@@ -91,6 +109,10 @@ impl Work {
             Work::Refusals => refusal_calls(judge),
             Work::MostBars => most_bars(judge),
             Work::Grid(grid, range) => grid_calls(judge, grid, range.clone()),
+            Work::Middles { window, part, seed } => {
+                let mut rng = Rng::stream(*seed, MIDDLES as u64, *part);
+                middle_calls(judge, window, &mut rng)
+            }
             Work::Random {
                 family,
                 part,
@@ -130,6 +152,16 @@ fn grid_calls(judge: &mut Judge, grid: &Grid, range: Range<usize>) -> Result<(),
     for number in range {
         grid.lay(number, &mut case);
         judge.check(EXHAUSTIVE, &case, &recognisers)?;
+    }
+    Ok(())
+}
+
+/// First the window as planted: if it had not its label, the changes would say little.
+fn middle_calls(judge: &mut Judge, window: &Window, rng: &mut Rng) -> Result<(), Difference> {
+    judge.check_known(MIDDLES, &window.known())?;
+    for case in window.cases() {
+        judge.check(MIDDLES, &case, &middles::RECOGNISERS)?;
+        judge.check_signalling(SIGNALLING, &case, &middles::RECOGNISERS, rng)?;
     }
     Ok(())
 }

@@ -124,6 +124,31 @@ fn misreadings() -> Vec<Known> {
     ]
 }
 
+/// 17 asks of every bar between whether it is beyond the bound: NaN is not, though the middle's
+/// extreme passes over it.
+fn middles() -> Vec<Known> {
+    let top = |low: &str| format!("0/5/5/0 4/4/6/{low} 2*4/4/6/3 5/0/5/0");
+    let bottom = |high: &str| format!("6/1/6/1 2/2/{high}/0 2*2/2/3/0 1/6/6/1");
+    vec![
+        named(
+            "17: a NaN low is not above the bound",
+            known(17, &top("nan"), Pair(Other, Other)),
+        ),
+        named(
+            "the same with a number",
+            known(17, &top("3"), Pair(Top, K5)),
+        ),
+        named(
+            "17: a NaN high is not below the bound",
+            known(17, &bottom("nan"), Pair(Other, Other)),
+        ),
+        named(
+            "the same with a number",
+            known(17, &bottom("3"), Pair(Bottom, K5)),
+        ),
+    ]
+}
+
 /// What was found about the papers.
 fn findings() -> Vec<Known> {
     vec![
@@ -166,7 +191,7 @@ fn findings() -> Vec<Known> {
 }
 
 pub fn all() -> Vec<Known> {
-    [small_histories(), misreadings(), findings()]
+    [small_histories(), misreadings(), middles(), findings()]
         .into_iter()
         .flatten()
         .collect()

@@ -11,6 +11,7 @@ pub mod known;
 pub mod list;
 pub mod long_middles;
 pub mod looks;
+pub mod middles;
 pub mod pairs;
 pub mod planted;
 pub mod refusals;

@@ -96,7 +96,7 @@ fn scale(rng: &mut Rng, bars: &mut [Bar]) {
 }
 
 /// Upside down about a base price: high and low change places.
-fn mirror(bars: &mut [Bar], base: f64) {
+pub(crate) fn mirror(bars: &mut [Bar], base: f64) {
     for bar in bars {
         let [open, close, high, low] = bar.prices().map(|price| 2.0 * base - price);
         *bar = Bar::new(open, close, low, high);
@@ -111,7 +111,7 @@ fn maybe_mirror(rng: &mut Rng, bars: &mut [Bar], base: f64) {
 }
 
 /// A bar around a base price, in 01's order of prices.
-fn at(base: f64, open: f64, close: f64, high: f64, low: f64) -> Bar {
+pub(crate) fn at(base: f64, open: f64, close: f64, high: f64, low: f64) -> Bar {
     Bar::new(base + open, base + close, base + high, base + low)
 }
 

@@ -11,7 +11,7 @@ use answers::Answers;
 use inputs::boundaries::{self, Boundary};
 use inputs::families::{FAMILIES, LONG};
 use inputs::rng::Rng;
-use inputs::{Case, known, refusals};
+use inputs::{Case, known, middles, refusals};
 use jcc_types::RECOGNISERS;
 use std::collections::BTreeSet;
 use std::env;
@@ -54,6 +54,7 @@ fn main() -> ExitCode {
     add_boundaries(&mut list);
     add_pairs(&mut list);
     add_families(&mut list);
+    add_middles(&mut list);
     add_refusals(&mut list);
     match list.write(Path::new(&folder)) {
         Ok(()) => {
@@ -181,6 +182,16 @@ fn add_families(list: &mut Answers) {
             let offsets = (0..count).map(|_| rng.pick(&case.offsets)).collect();
             case.offsets = offsets;
             list.add_all(&case);
+        }
+    }
+}
+
+/// A window of 4 or 17 for each of their labels, as planted and with some of its changes.
+fn add_middles(list: &mut Answers) {
+    for window in middles::listed() {
+        list.add_known(&window.known());
+        for case in window.listed_cases() {
+            list.add(&case, &[window.recogniser()]);
         }
     }
 }
