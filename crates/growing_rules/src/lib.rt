@@ -23,7 +23,7 @@ use rule_types::label::code;
 use rule_types::label::pair_a;
 use rule_types::label::pick;
 
-pub mod middle;
+mod middle;
 
 // What a window is tried for, where the source has a closure.
 pub enum Shape {

@@ -103,8 +103,8 @@ pub fn pair_at(k: u32, t: Thresholds, len: usize, prices: &[f64], di: usize) -> 
     judge(k, t, len, p, w, gate)
 }
 
-// Every rule over the same windows. What several rules need is made once: the newest bars, the extremes of the quarter, and the test
-// that 4 and 17 begin with.
+// Every rule over the same windows. What several rules need is made once: the newest bars, the extremes of the quarter, and the search of
+// 4 and 17.
 fn rules(t: Thresholds, len: usize, deep: bool, w: &[f64], gate: &[f64]) -> [Pair; 18]
     ensures { λ r. ⌜ r ≡ rulesOf t len deep (barsOf (now (w .entry))) (barsOf (now (gate .entry))) ⌝ }
 {
