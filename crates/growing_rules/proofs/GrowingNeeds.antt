@@ -5,7 +5,7 @@ use mathlib.Core.Path.{_≡_, refl, sym, _∙_}
 use mathlib.Core.Bool.{Bool, true, false, not, _&&_, _||_, and-false}
 use mathlib.Core.List.{List, []}
 use native.Mathlib.Omega.{arith}
-use native.Mathlib.Decide.{decLt}
+use native.Mathlib.Decide.{decLe, decLt}
 use borrow.Author.Tests.{ltb-true, ltb-false}
 use lib.Dec.{ltb}
 use lib.ListN.{length}
@@ -18,11 +18,12 @@ use Rattle.measures.specs.Fold.{columnOf}
 use Rattle.measures.proofs.Order.{max-second, min-second, max-under, min-over, max-known, min-known, both-ways}
 use Rattle.measures.proofs.FoldLaws.{known-highest, known-lowest}
 use Rattle.rule_types.specs.declared.label.Label.the-variants.{Other}
+use Rattle.growing_rules.specs.declared.Ends.{Ends}
 use Rattle.growing_rules.specs.declared.Shape.{Shape}
 use Rattle.growing_rules.specs.declared.Shape.the-variants.{ThreeMethods, Tower}
 use Rattle.growing_rules.specs.declared.middle.Middle.{Middle}
-use Rattle.growing_rules.specs.GrowingRule.{firstMatch, innerOf, threeMethods, tower, checkOf, growingOf, sanFaV20221118, taXing, standsOut}
-use Rattle.growing_rules.specs.Middle.{middleOf, entered, middleAt, mayRise, mayFall, mayBeTop, mayBeBottom, mayBe, beyond, noMatch, searchedOf}
+use Rattle.growing_rules.specs.GrowingRule.{firstMatch, innerOf, checkOf, standsOut}
+use Rattle.growing_rules.specs.Middle.{middleOf, entered, middleAt, mayRise, mayFall, mayBeTop, mayBeBottom, mayBe, beyond, noMatch, foundOf, searchedOf}
 use Rattle.growing_rules.proofs.GrowingLaws.{match-miss, match-ends}
 use Rattle.growing_rules.proofs.MiddleLaws.{first-at, last-at, at-next, at-end}
 use Rattle.growing_rules.proofs.ShapeLaws.{neither, no-label}
@@ -78,21 +79,24 @@ pub no-window : (shape : Shape) (w : List Bar) (n : ℕ) → 1 ≤ n → mayBe s
 unfolding middleAt
 no-window shape w n some unfit = no-label (windowOf w 1 n) shape (rw (first-at w n, last-at w n some) unfit)
 
--- so that what was found stays: 17's, and 4's, which does not try the window of 9 bars
-module _ (w : List Bar) (n : ℕ) (many : 5 ≤ n) where
-  pub tower-stays : mayBe Tower (backOf w n) (backOf w 1) (middleAt w n) ≡ false → searchedOf w (n + 1) .tower ≡ searchedOf w n .tower
-  tower-stays unfit = match-miss tower w n many (rw (no-window Tower w n (omega arith) unfit))
+-- what is found in the windows of fewer than n bars is the search of as many sizes, up to the end of its shape
+pub found-at : (shape : Shape) (end : ℕ) (w : List Bar) (n k : ℕ) → min n end ≡ k → foundOf shape end w n ≡ firstMatch (checkOf shape) (k - 5) 5 w
+unfolding foundOf
+found-at shape end w n k e = rw e
 
-  pub methods-stay : n < 10 → (ltb n 9 && mayBe ThreeMethods (backOf w n) (backOf w 1) (middleAt w n)) ≡ false → searchedOf w (n + 1) .methods ≡ searchedOf w n .methods
-  methods-stay few unfit = go (ltb n 9) refl unfit
+-- it stays where the window of n bars is not tried, or fails
+module _ (shape : Shape) (end : ℕ) (w : List Bar) (n : ℕ) (many : 5 ≤ n) where
+  pub found-stays : (ltb n end && mayBe shape (backOf w n) (backOf w 1) (middleAt w n)) ≡ false → foundOf shape end w (n + 1) ≡ foundOf shape end w n
+  found-stays unfit = go (ltb n end) refl unfit
     where
-      go : (t : Bool) → ltb n 9 ≡ t → (t && mayBe ThreeMethods (backOf w n) (backOf w 1) (middleAt w n)) ≡ false → searchedOf w (n + 1) .methods ≡ searchedOf w n .methods
-      go false e h = let f : min (n + 1) 9 ≡ min n 9 = omega (arith, ltb-false n 9 e) in rw f
+      go : (t : Bool) → ltb n end ≡ t → (t && mayBe shape (backOf w n) (backOf w 1) (middleAt w n)) ≡ false → foundOf shape end w (n + 1) ≡ foundOf shape end w n
+      go false e h =
+          let past = ltb-false n end e in
+          found-at shape end w (n + 1) end (omega (arith, past)) ∙ sym (found-at shape end w n end (omega (arith, past)))
       go true e h =
-          let less = ltb-true n 9 e in
-          let f1 : min (n + 1) 9 ≡ n + 1 = omega (arith, less) in
-          let f2 : min n 9 ≡ n = omega (arith, less) in
-          rw (f1, f2) (match-miss threeMethods w n many (rw (no-window ThreeMethods w n (omega arith) h)))
+          let before = ltb-true n end e in
+          rw (found-at shape end w (n + 1) (n + 1) (omega (arith, before)), found-at shape end w n n (omega (arith, before)))
+          (match-miss (checkOf shape) w n many (rw (no-window shape w n (omega arith) h)))
 
 -- ---- and a middle that it does not lie beyond, it does not lie beyond when a bar has entered
 
@@ -131,16 +135,25 @@ module _ (w : List Bar) (n : ℕ) (some : 2 ≤ n) (within : beyond (backOf w 1)
   no-more shape i = no-window shape w (n + i) (omega arith) (no-shape (backOf w (n + i)) (backOf w 1) (middleAt w (n + i)) (all-within i) shape)
 
 -- and the search is at its end
-pub search-ends : (w : List Bar) (n : ℕ) → 5 ≤ n → n < 10 → beyond (backOf w 1) (middleAt w n) ≡ false → searchedOf w n ≡ growingOf w
-unfolding sanFaV20221118 taXing
-search-ends w n many few within =
-    let e1 : min n 9 ≡ n = omega arith in
-    let e2 : n + (9 - n) - 5 ≡ 4 = omega arith in
-    let e3 : n + (10 - n) - 5 ≡ 5 = omega arith in
-    let some : 2 ≤ n = omega arith in
-    let methods = rw e2 at (match-ends threeMethods w n many (no-more w n some within ThreeMethods) (9 - n)) in
-    let towers = rw e3 at (match-ends tower w n many (no-more w n some within Tower) (10 - n)) in
-    rw (e1, ← methods, ← towers)
+module _ (w : List Bar) (n : ℕ) (many : 5 ≤ n) (few : n ≤ 10) (within : beyond (backOf w 1) (middleAt w n) ≡ false) where
+  found-all : (shape : Shape) (end : ℕ) → foundOf shape end w n ≡ foundOf shape end w 10
+  found-all shape end =
+      let d = min 10 end - n in
+      elim (decLe n end) [
+        | yes before ↦ (found-at shape end w n n (omega arith) ∙ sym (match-ends (checkOf shape) w n many (no-more w n (omega arith) within shape) d) ∙ sym (found-at shape end w 10 (n + d) (omega arith)))
+        | no past ↦ (found-at shape end w n end (omega arith) ∙ sym (found-at shape end w 10 end (omega arith)))
+      ]
+
+  pub search-ends : (ends : Ends) → searchedOf ends w n ≡ searchedOf ends w 10
+  search-ends ends = rw (found-all ThreeMethods (ends .methods), found-all Tower (ends .tower))
+
+-- nothing is found in the windows of fewer than 5 bars
+pub searched-none : (ends : Ends) (w : List Bar) → noMatch ≡ searchedOf ends w 5
+unfolding foundOf firstMatch
+searched-none ends w =
+    let e1 : min 5 (ends .methods) - 5 ≡ 0 = omega arith in
+    let e2 : min 5 (ends .tower) - 5 ≡ 0 = omega arith in
+    rw (e1, e2)
 
 -- ---- the newest bar stands out from the three before it, where its close lies beyond them
 
@@ -176,9 +189,9 @@ first-three w long =
     rw (at-next w 4 (omega arith) (omega arith), at-next w 3 (omega arith) (omega arith), at-next w 2 (omega arith) (omega arith))
 
 -- where the code's first test fails, neither finds anything
-pub no-growing : (w : List Bar) → (ltb (length w) 5 || standsOut (backOf w 1) (backOf w 2) (backOf w 3) (backOf w 4)) ≡ false → growingOf w ≡ noMatch
-unfolding firstMatch
-no-growing w not-may =
+pub no-growing : (ends : Ends) (w : List Bar) → (ltb (length w) 5 || standsOut (backOf w 1) (backOf w 2) (backOf w 3) (backOf w 4)) ≡ false → searchedOf ends w 10 ≡ noMatch
+no-growing ends w not-may =
     let e = neither (ltb (length w) 5) (standsOut (backOf w 1) (backOf w 2) (backOf w 3) (backOf w 4)) not-may in
     let out = out-of-three (backOf w 1) (backOf w 2) (backOf w 3) (backOf w 4) (middleAt w 2) (known-high w 2) (known-low w 2) (e .1) in
-    sym (search-ends w 5 (omega arith) (omega arith) (rw (first-three w (ltb-false (length w) 5 (e .0))) out))
+    let within : beyond (backOf w 1) (middleAt w 5) ≡ false = rw (first-three w (ltb-false (length w) 5 (e .0))) out in
+    sym (search-ends w 5 (omega arith) (omega arith) within ends) ∙ sym (searched-none ends w)

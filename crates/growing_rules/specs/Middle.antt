@@ -9,12 +9,14 @@ use Rattle.measures.specs.declared.folds.Column.the-variants.{High, Low}
 use Rattle.measures.specs.Price.{maxOf, minOf}
 use Rattle.measures.specs.Window.{windowOf}
 use Rattle.measures.specs.Fold.{columnOf, highestOf, lowestOf, everyOf}
+use Rattle.rule_types.specs.declared.label.Pair.{Pair}
 use Rattle.rule_types.specs.Label.{pairA}
+use Rattle.growing_rules.specs.declared.Ends.{Ends}
 use Rattle.growing_rules.specs.declared.Growing.{Growing}
 use Rattle.growing_rules.specs.declared.Shape.{Shape}
 use Rattle.growing_rules.specs.declared.Shape.the-variants.{ThreeMethods, Tower}
 use Rattle.growing_rules.specs.declared.middle.Middle.{Middle}
-use Rattle.growing_rules.specs.GrowingRule.{firstMatch, innerOf, threeMethods, tower}
+use Rattle.growing_rules.specs.GrowingRule.{firstMatch, innerOf, checkOf}
 
 -- ---- the running extremes
 
@@ -79,6 +81,9 @@ beyond last m = lt (last .«open») (last .close) && lt (m .highest) (last .clos
 abbrev pub noMatch : Growing
 noMatch = record { methods = pairA; tower = pairA }
 
--- what is found in the windows of fewer than n bars, of which 4 tries those of 5 to 8 and 17 those of 5 to 9
-abbrev pub searchedOf : List Bar → ℕ → Growing
-searchedOf w n = record { methods = firstMatch threeMethods (min n 9 - 5) 5 w; tower = firstMatch tower (n - 5) 5 w }
+-- what is found of a shape in the windows of fewer than n bars, and of fewer than its end
+unfoldable pub foundOf : Shape → ℕ → List Bar → ℕ → Pair
+foundOf shape end w n = firstMatch (checkOf shape) (min n end - 5) 5 w
+
+abbrev pub searchedOf : Ends → List Bar → ℕ → Growing
+searchedOf ends w n = record { methods = foundOf ThreeMethods (ends .methods) w n; tower = foundOf Tower (ends .tower) w n }

@@ -3,7 +3,7 @@
 // for every input.
 ghost use mathlib.Core.Path.{_≡_};
 ghost use Prim.Native.Nat.{_+_, _-_, _≤_, _<_};
-ghost use mathlib.Core.Bool.{true, _&&_, _||_};
+ghost use mathlib.Core.Bool.{true, _||_};
 ghost use mathlib.Core.List.{[]};
 ghost use lib.Dec.{ltb};
 ghost use lib.ListN.{length};
@@ -11,7 +11,7 @@ ghost use Rattle.measures.specs.Bar.{barsOf};
 ghost use Rattle.measures.specs.Window.{backOf, windowOf};
 ghost use Rattle.growing_rules.specs.declared.Shape.the-variants as shapes;
 ghost use Rattle.growing_rules.specs.GrowingRule.{sizeLabel, firstMatch, firstOf, lastOf, innerOf, threeMethods, sanFaV20221118, leadersOf, joined, endsLead, tower as towerOf, checkOf, taXing, growingOf, standsOut};
-ghost use Rattle.growing_rules.specs.Middle.{middleOf, middleAt, mayRise, mayFall, mayBeTop, mayBeBottom, mayBe, beyond as beyondOf, noMatch, searchedOf};
+ghost use Rattle.growing_rules.specs.Middle.{middleOf, middleAt, mayRise, mayFall, mayBeTop, mayBeBottom, mayBe, beyond as beyondOf, noMatch, foundOf, searchedOf};
 use measures::Bar;
 use measures::Column;
 use middle::Middle;
@@ -309,57 +309,70 @@ fn no_match() -> Growing
     }
 }
 
-// What is found with the window of n bars, after the smaller ones. Both recognisers' tests are made before either goes on: a call between
-// them would cost the values that both read.
-fn methods_at(found: Pair, w: &[f64], n: usize, may: bool) -> Pair
-    requires { ⌜ (5 ≤ n) × (n < 10) × (found ≡ searchedOf (barsOf (now w)) n .methods) × (may ≡ (ltb n 9 && mayBe shapes.ThreeMethods (backOf (barsOf (now w)) n) (backOf (barsOf (now w)) 1) (middleAt (barsOf (now w)) n))) ⌝ }
-    ensures { λ r. ⌜ r ≡ searchedOf (barsOf (now (w .entry))) (n + 1) .methods ⌝ }
+// The sizes from which on the search tries no more, 0 for a recogniser that is not asked for.
+pub struct Ends {
+    pub methods: usize,
+    pub tower: usize,
+}
+
+// 4 tries windows of 5 to 8 bars, 17 of 5 to 9.
+const METHODS_END: usize = 9;
+
+const TOWER_END: usize = 10;
+
+// What is found with the window of n bars, after the smaller ones. The tests of both recognisers are made before either goes on: a call
+// between them would cost the values that both read.
+fn methods_at(found: Pair, end: usize, w: &[f64], n: usize, may: bool) -> Pair
+    requires { ⌜ (5 ≤ n) × (n < 10) × (found ≡ foundOf shapes.ThreeMethods end (barsOf (now w)) n) × (may ≡ mayBe shapes.ThreeMethods (backOf (barsOf (now w)) n) (backOf (barsOf (now w)) 1) (middleAt (barsOf (now w)) n)) ⌝ }
+    ensures { λ r. ⌜ r ≡ foundOf shapes.ThreeMethods end (barsOf (now (w .entry))) (n + 1) ⌝ }
 {
-    if may {
+    let fits = (n < end) & may;
+    if fits {
         find_at(Shape::ThreeMethods, found, w, n)
     } else {
         found
     }
 }
 
-fn tower_at(found: Pair, w: &[f64], n: usize, may: bool) -> Pair
-    requires { ⌜ (5 ≤ n) × (n < 10) × (found ≡ searchedOf (barsOf (now w)) n .tower) × (may ≡ mayBe shapes.Tower (backOf (barsOf (now w)) n) (backOf (barsOf (now w)) 1) (middleAt (barsOf (now w)) n)) ⌝ }
-    ensures { λ r. ⌜ r ≡ searchedOf (barsOf (now (w .entry))) (n + 1) .tower ⌝ }
+fn tower_at(found: Pair, end: usize, w: &[f64], n: usize, may: bool) -> Pair
+    requires { ⌜ (5 ≤ n) × (n < 10) × (found ≡ foundOf shapes.Tower end (barsOf (now w)) n) × (may ≡ mayBe shapes.Tower (backOf (barsOf (now w)) n) (backOf (barsOf (now w)) 1) (middleAt (barsOf (now w)) n)) ⌝ }
+    ensures { λ r. ⌜ r ≡ foundOf shapes.Tower end (barsOf (now (w .entry))) (n + 1) ⌝ }
 {
-    if may {
+    let fits = (n < end) & may;
+    if fits {
         find_at(Shape::Tower, found, w, n)
     } else {
         found
     }
 }
 
-fn try_window(found: Growing, w: &[f64], n: usize, m: Middle) -> Growing
-    requires { ⌜ (5 ≤ n) × (n < 10) × (found ≡ searchedOf (barsOf (now w)) n) × (m ≡ middleAt (barsOf (now w)) n) ⌝ }
-    ensures { λ r. ⌜ r ≡ searchedOf (barsOf (now (w .entry))) (n + 1) ⌝ }
+fn try_window(ends: Ends, found: Growing, w: &[f64], n: usize, m: Middle) -> Growing
+    requires { ⌜ (5 ≤ n) × (n < 10) × (found ≡ searchedOf ends (barsOf (now w)) n) × (m ≡ middleAt (barsOf (now w)) n) ⌝ }
+    ensures { λ r. ⌜ r ≡ searchedOf ends (barsOf (now (w .entry))) (n + 1) ⌝ }
 {
     let first = measures::back(w, n);
     let last = measures::back(w, 1);
-    let four = (n < 9) & may_be_methods(first, last, m);
-    let seventeen = may_be_tower(first, last, m);
-    let methods = methods_at(found.methods, w, n, four);
-    let tower = tower_at(found.tower, w, n, seventeen);
+    let may_be_four = may_be_methods(first, last, m);
+    let may_be_seventeen = may_be_tower(first, last, m);
+    let methods = methods_at(found.methods, ends.methods, w, n, may_be_four);
+    let tower = tower_at(found.tower, ends.tower, w, n, may_be_seventeen);
     Growing { methods, tower }
 }
 
-// The search over the windows of 5 to 9 bars, for both recognisers: each bar of the middle enters its extremes once.
-fn search(w: &[f64]) -> Growing
-    ensures { λ r. ⌜ r ≡ growingOf (barsOf (now (w .entry))) ⌝ }
+// The search, for both recognisers at once: each bar of the middle enters its extremes once.
+fn search(ends: Ends, w: &[f64]) -> Growing
+    ensures { λ r. ⌜ r ≡ searchedOf ends (barsOf (now (w .entry))) 10 ⌝ }
 {
     let last = measures::back(w, 1);
     let mut m = first_middle(w);
     let mut found = no_match();
     let mut n = 5;
-    while n < 10 {
+    while n < TOWER_END {
         let beyond = is_beyond(last, m);
         if !beyond {
             return found;
         }
-        found = try_window(found, w, n, m);
+        found = try_window(ends, found, w, n, m);
         m = grow(m, w, n);
         n += 1;
     }
@@ -371,7 +384,11 @@ pub fn san_fa_v20221118(w: &[f64]) -> Pair
 {
     let may = may_match(w);
     if may {
-        let found = search(w);
+        let ends = Ends {
+            methods: METHODS_END,
+            tower: 0,
+        };
+        let found = search(ends, w);
         found.methods
     } else {
         pair_a()
@@ -383,7 +400,11 @@ pub fn ta_xing(w: &[f64]) -> Pair
 {
     let may = may_match(w);
     if may {
-        let found = search(w);
+        let ends = Ends {
+            methods: 0,
+            tower: TOWER_END,
+        };
+        let found = search(ends, w);
         found.tower
     } else {
         pair_a()
@@ -395,5 +416,13 @@ pub fn growing_pairs(w: &[f64]) -> Growing
     ensures { λ r. ⌜ r ≡ growingOf (barsOf (now (w .entry))) ⌝ }
 {
     let may = may_match(w);
-    if may { search(w) } else { no_match() }
+    if may {
+        let ends = Ends {
+            methods: METHODS_END,
+            tower: TOWER_END,
+        };
+        search(ends, w)
+    } else {
+        no_match()
+    }
 }

@@ -5,9 +5,8 @@ use mathlib.Core.Bool.{Bool, true, false, not}
 use native.Mathlib.Omega.{arith}
 use Rattle.measures.specs.Bar.{barsOf}
 use Rattle.measures.specs.Window.{backOf}
-use Rattle.growing_rules.specs.GrowingRule.{firstMatch, sanFaV20221118, taXing}
 use Rattle.growing_rules.specs.Middle.{middleAt, beyond, searchedOf}
-use Rattle.growing_rules.proofs.GrowingNeeds.{search-ends}
+use Rattle.growing_rules.proofs.GrowingNeeds.{search-ends, searched-none}
 use Rattle.growing_rules.proofs.search.Statement.{statement}
 use Rattle.growing_rules.proofs.search.Tie as tie
 
@@ -16,24 +15,26 @@ negated true h = sym h
 negated false h = refl
 
 abbrev Inv-loop : tie.InvT-loop
-Inv-loop w last m₀ found₀ n₀ m found n = (5 ≤ n) × (n ≤ 10) × (m ≡ middleAt (barsOf w) n) × (found ≡ searchedOf (barsOf w) n)
+Inv-loop ends w last m₀ found₀ n₀ m found n = (5 ≤ n) × (n ≤ 10) × (m ≡ middleAt (barsOf w) n) × (found ≡ searchedOf ends (barsOf w) n)
 
 abbrev μ-loop : tie.MeasureT-loop
-μ-loop w last m₀ found₀ n₀ m found n = 10 - n
+μ-loop ends w last m₀ found₀ n₀ m found n = 10 - n
 
 loop-holds : tie.Need-loop-holds Inv-loop μ-loop
-unfolding firstMatch
-loop-holds c = (omega arith, omega arith, c .before .first-middle .ensures, c .no-match .ensures)
+loop-holds c =
+    let a = c .before .before .before .before .args in
+    (omega arith, omega arith, c .before .first-middle .ensures, c .no-match .ensures ∙ searched-none (a .ends) (barsOf (a .w .now)))
 
 returns : tie.Need-returns Inv-loop μ-loop
 returns c =
     let tested = c .before in
     let at-loop = tested .before .before in
     let read = at-loop .before .before .before in
-    let w = barsOf (read .before .before .args .w .now) in
+    let a = read .before .before .args in
+    let w = barsOf (a .w .now) in
     let now = at-loop .loop in
     let unmet = rw (tested .is-beyond .ensures, read .back .ensures, now .inv .2) at (c .if1 .taken) in
-    now .inv .3 ∙ search-ends w (now .n) (omega arith) (omega arith) (negated (beyond (backOf w 1) (middleAt w (now .n))) unmet)
+    now .inv .3 ∙ search-ends w (now .n) (omega arith) (omega arith) (negated (beyond (backOf w 1) (middleAt w (now .n))) unmet) (a .ends)
 
 try-window-requires : tie.Need-try-window-requires Inv-loop μ-loop
 try-window-requires c κs = let now = c .before .before .before .loop in (omega arith, omega arith, now .inv .3, now .inv .2)
@@ -51,7 +52,6 @@ loop-again : tie.Need-loop-again Inv-loop μ-loop
 loop-again c = (omega arith, omega arith, c .grow .ensures, c .before .try-window .ensures)
 
 returns-2 : tie.Need-returns-2 Inv-loop μ-loop
-unfolding sanFaV20221118 taXing
 returns-2 c =
     let now = c .before .loop in
     let e : now .n ≡ 10 = omega arith in
