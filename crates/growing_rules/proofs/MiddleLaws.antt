@@ -1,11 +1,10 @@
 -- The middle as the window grows: the bars between the ends of each size, and their extremes when an older bar enters. Assumes nothing.
 use Prim.Native.Nat.{ℕ, _+_, _-_, _<_, _≤_, min}
-use mathlib.Core.Path.{_≡_, refl, sym, _∙_}
-use mathlib.Core.Bool.{true, false}
+use mathlib.Core.Path.{_≡_, sym, _∙_}
 use mathlib.Core.List.{List, [], _∷_}
 use native.Mathlib.Omega.{arith}
 use native.Mathlib.Decide.{decLe}
-use lib.ListN.{length, getD, take}
+use lib.ListN.{length, take}
 use lib.Seq.{take-length, getD-take, length-take-le}
 use Rattle.measures.specs.Bar.{Bar, noBar}
 use Rattle.measures.specs.declared.folds.Column.the-variants.{High, Low}

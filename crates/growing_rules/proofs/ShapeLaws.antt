@@ -8,10 +8,9 @@ use Rattle.measures.specs.Bar.{Bar}
 use Rattle.measures.specs.declared.folds.Column.{Column}
 use Rattle.measures.specs.declared.folds.Column.the-variants.{Close, High, Low}
 use Rattle.measures.specs.Price.{maxOf, minOf}
-use Rattle.measures.specs.Fold.{columnOf, highestOf, lowestOf, sumOf, sizeOf, meanOf, varianceOf, everyOf}
+use Rattle.measures.specs.Fold.{columnOf, highestOf, lowestOf, sumOf, sizeOf, varianceOf, everyOf}
 use Rattle.measures.proofs.Order.{lt-asym, known-left, known-right, max-both, min-both}
 use Rattle.measures.proofs.FoldLaws.{every-above, every-below}
-use Rattle.rule_types.specs.declared.label.Label.{Label}
 use Rattle.rule_types.specs.declared.label.Label.the-variants.{Other, RisingThreeMethods, FallingThreeMethods, Bottom, Top}
 use Rattle.rule_types.specs.Number.{aHalf}
 use Rattle.growing_rules.specs.declared.Shape.{Shape}

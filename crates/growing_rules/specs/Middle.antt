@@ -3,7 +3,7 @@
 use Prim.Native.Nat.{ℕ, _-_, min}
 use mathlib.Core.Bool.{Bool, not, _&&_, _||_}
 use mathlib.Core.List.{List}
-use lib.Ieee.{Float, lt, isNan}
+use lib.Ieee.{lt, isNan}
 use Rattle.measures.specs.Bar.{Bar}
 use Rattle.measures.specs.declared.folds.Column.the-variants.{High, Low}
 use Rattle.measures.specs.Price.{maxOf, minOf}

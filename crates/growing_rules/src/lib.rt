@@ -8,7 +8,7 @@ ghost use mathlib.Core.List.{[]};
 ghost use lib.Dec.{ltb};
 ghost use lib.ListN.{length};
 ghost use Rattle.measures.specs.Bar.{barsOf};
-ghost use Rattle.measures.specs.Window.{backOf, windowOf};
+ghost use Rattle.measures.specs.Window.{backOf};
 ghost use Rattle.growing_rules.specs.declared.Shape.the-variants as shapes;
 ghost use Rattle.growing_rules.specs.GrowingRule.{sizeLabel, firstMatch, firstOf, lastOf, innerOf, threeMethods, sanFaV20221118, leadersOf, joined, endsLead, tower as towerOf, checkOf, taXing, growingOf, standsOut};
 ghost use Rattle.growing_rules.specs.Middle.{middleOf, middleAt, mayRise, mayFall, mayBeTop, mayBeBottom, mayBe, beyond as beyondOf, noMatch, foundOf, searchedOf};

@@ -1,7 +1,7 @@
 -- Before the end what was found is the search's; a window that is not tried, or fails, adds nothing. Assumes nothing.
 use Prim.Native.Nat.{_+_}
-use mathlib.Core.Path.{_≡_, sym, _∙_}
-use mathlib.Core.Bool.{true, and-eq-true-iff}
+use mathlib.Core.Path.{sym, _∙_}
+use mathlib.Core.Bool.{and-eq-true-iff}
 use native.Mathlib.Omega.{arith}
 use borrow.Author.Tests.{ltb-true}
 use lib.Dec.{ltb}

@@ -1,5 +1,4 @@
 -- Each recogniser's test is of the window's ends and its middle's extremes. Assumes nothing.
-use mathlib.Core.Path.{_≡_}
 use Rattle.growing_rules.proofs.try_window.Statement.{statement}
 use Rattle.growing_rules.proofs.try_window.Tie as tie
 
