@@ -3,6 +3,7 @@
 use crate::Case;
 use crate::boundaries;
 use crate::hostile::{perturb, spoil, spoil_bodies};
+use crate::middles;
 use crate::planted::{planted, planted_tower};
 use crate::rng::Rng;
 use crate::walk::{Walk, small_bar};
@@ -51,14 +52,15 @@ pub const FAMILIES: [Family; 9] = [
 pub const LONG: usize = 2;
 
 /// The families whose histories, one after the other, make the history of a box.
-pub const PIECES: [Family; 7] = [
+pub const PIECES: [Family; 8] = [
     family("walks", walks, 15),
     family("small", small, 15),
-    family("planted", planted, 30),
+    family("planted", planted, 20),
     family("boundaries", boundaries, 10),
     with_nan(family("hostile", hostile, 15)),
     family("thresholds", thresholds, 10),
     with_nan(family("corners", corners, 5)),
+    with_nan(family("middles", middles::changed, 10)),
 ];
 
 /// Lengths at and around those at which a rule begins, the quarter, 12's gate and a box's 64.

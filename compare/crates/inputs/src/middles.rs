@@ -1,5 +1,5 @@
 //! Windows of 4 and 17 with NaN, zeros of both signs and infinities in their middles, the bars between
-//! the first and the last, and in the bounds that a middle is held to. Nothing here is random.
+//! the first and the last, and in the bounds that a middle is held to.
 //!
 //! As planted, each window gets the label of its size. It is moved so that each of its prices in turn
 //! is zero: there a zero of either sign in another place is a tie.
@@ -10,6 +10,7 @@ use crate::Case;
 use crate::hostile::price_at;
 use crate::known::Known;
 use crate::planted::{at, mirror};
+use crate::rng::Rng;
 use changes::{CLOSE, Change, OPEN, last};
 use jcc_types::Label::{self, *};
 use jcc_types::{Bar, Pair, Thresholds};
@@ -129,6 +130,18 @@ fn middles(size: usize) -> Vec<Middle> {
         middles.push(Middle::Nested);
     }
     middles
+}
+
+/// One of the windows with one of its changes: a piece of a longer history.
+pub fn changed(rng: &mut Rng, case: &mut Case) {
+    let shape = rng.pick(&Shape::ALL);
+    let size = rng.between(LEAST, shape.most());
+    let middle = rng.pick(&middles(size));
+    let window = rng.pick(&Window::around_zero(shape, size, middle).placed());
+    let changes = window.changes();
+    let change = &changes[rng.below(changes.len())];
+    case.bars.extend(window.with(change));
+    case.offsets.push(1);
 }
 
 /// The windows of the list of answers: one for each label, with its middle's bound at zero.
@@ -308,15 +321,18 @@ impl Window {
     }
 
     fn changed(&self, changes: Vec<Change>) -> impl Iterator<Item = Case> {
-        let bars = self.bars();
-        let start = 4 * self.older;
-        changes.into_iter().map(move |change| {
-            let mut case = Case::new();
-            case.bars.clone_from(&bars);
-            for (place, price) in change {
-                *price_at(&mut case.bars, start + place) = price;
-            }
-            case
+        changes.into_iter().map(|change| Case {
+            bars: self.with(&change),
+            ..Case::new()
         })
+    }
+
+    /// Its bars, and those before it, with a change.
+    fn with(&self, change: &[(usize, f64)]) -> Vec<Bar> {
+        let mut bars = self.bars();
+        for (place, price) in change {
+            *price_at(&mut bars, 4 * self.older + place) = *price;
+        }
+        bars
     }
 }
