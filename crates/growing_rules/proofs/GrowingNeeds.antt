@@ -14,7 +14,7 @@ use Rattle.measures.specs.Bar.{Bar}
 use Rattle.measures.specs.declared.folds.Column.the-variants.{High, Low}
 use Rattle.measures.specs.Price.{maxOf, minOf}
 use Rattle.measures.specs.Window.{windowOf, backOf}
-use Rattle.measures.specs.Fold.{columnOf}
+use Rattle.measures.specs.Fold.{columnOf, extremesOf}
 use Rattle.measures.proofs.Order.{max-second, min-second, max-under, min-over, max-known, min-known, both-ways}
 use Rattle.measures.proofs.FoldLaws.{known-highest, known-lowest}
 use Rattle.rule_types.specs.declared.label.Label.the-variants.{Other}
@@ -111,11 +111,11 @@ module _ (last b : Bar) (m : Middle) (high : isNan (m .highest) ≡ false) (low 
 
 module _ (w : List Bar) (n : ℕ) where
   known-high : isNan (middleAt w n .highest) ≡ false
-  unfolding middleAt middleOf
+  unfolding middleAt middleOf extremesOf
   known-high = known-highest (columnOf High (innerOf (windowOf w 1 n)))
 
   known-low : isNan (middleAt w n .lowest) ≡ false
-  unfolding middleAt middleOf
+  unfolding middleAt middleOf extremesOf
   known-low = known-lowest (columnOf Low (innerOf (windowOf w 1 n)))
 
   next-within : 2 ≤ n → beyond (backOf w 1) (middleAt w n) ≡ false → beyond (backOf w 1) (middleAt w (n + 1)) ≡ false
@@ -157,17 +157,22 @@ searched-none ends w =
 
 -- ---- the newest bar stands out from the three before it, where its close lies beyond them
 
+-- once for both sides: what three values and a known one before them have as their foremost, none of the three has before it
+module _ (less : Float → Float → Bool) (f : Float → Float → Float)
+    (under : (a b z : Float) → less (f a b) z ≡ true → less z a ≡ false)
+    (second : (a b z : Float) → isNan b ≡ false → less (f a b) z ≡ true → less b z ≡ true)
+    (known : (a b : Float) → isNan b ≡ false → isNan (f a b) ≡ false) where
+  none-of-three : (c x y z m : Float) → isNan m ≡ false → less (f z (f y (f x m))) c ≡ true → (not (less c x) && not (less c y) && not (less c z)) ≡ true
+  none-of-three c x y z m k all =
+      let two = second z (f y (f x m)) c (known y (f x m) (known x m k)) all in
+      let one = second y (f x m) c (known x m k) two in
+      simp (under z (f y (f x m)) c all, under y (f x m) c two, under x m c one)
+
 three-below : (c x y z m : Float) → isNan m ≡ false → lt (maxOf z (maxOf y (maxOf x m))) c ≡ true → (not (lt c x) && not (lt c y) && not (lt c z)) ≡ true
-three-below c x y z m known below =
-    let two = max-second z (maxOf y (maxOf x m)) c (max-known y (maxOf x m) (max-known x m known)) below in
-    let one = max-second y (maxOf x m) c (max-known x m known) two in
-    simp (max-under z (maxOf y (maxOf x m)) c below, max-under y (maxOf x m) c two, max-under x m c one)
+three-below = none-of-three lt maxOf max-under max-second max-known
 
 three-above : (c x y z m : Float) → isNan m ≡ false → lt c (minOf z (minOf y (minOf x m))) ≡ true → (not (lt x c) && not (lt y c) && not (lt z c)) ≡ true
-three-above c x y z m known above =
-    let two = min-second z (minOf y (minOf x m)) c (min-known y (minOf x m) (min-known x m known)) above in
-    let one = min-second y (minOf x m) c (min-known x m known) two in
-    simp (min-over z (minOf y (minOf x m)) c above, min-over y (minOf x m) c two, min-over x m c one)
+three-above = none-of-three (λ x y. lt y x) minOf min-over min-second min-known
 
 -- a test and three more, the three of which a fourth implies
 fourth-fails : (a x y z u : Bool) → (u ≡ true → (x && y && z) ≡ true) → (a && x && y && z) ≡ false → (a && u) ≡ false

@@ -9,7 +9,7 @@ use lib.Seq.{take-length, getD-take, length-take-le}
 use Rattle.measures.specs.Bar.{Bar, noBar}
 use Rattle.measures.specs.declared.folds.Column.the-variants.{High, Low}
 use Rattle.measures.specs.Window.{upTo, newest, windowOf, backOf}
-use Rattle.measures.specs.Fold.{columnOf, everyOf}
+use Rattle.measures.specs.Fold.{columnOf, everyOf, extremesOf}
 use Rattle.measures.proofs.FoldLaws.{highest-grows, lowest-grows}
 use Rattle.measures.proofs.WindowLaws.{upTo-in, upTo-one, length-window, newest-more, newest-none, back-newest, window-reach, all-of-it}
 use Rattle.growing_rules.specs.GrowingRule.{firstOf, lastOf, innerOf}
@@ -101,7 +101,7 @@ window-stays w n all = all-of-it w (n + 1) (omega arith) ∙ sym (all-of-it w n 
 -- ---- the extremes
 
 pub middle-grows : (b : Bar) (mid : List Bar) → middleOf (b ∷ mid) ≡ entered b (middleOf mid)
-unfolding middleOf entered columnOf everyOf
+unfolding middleOf extremesOf entered columnOf everyOf
 middle-grows b mid = simp (highest-grows (b .high) (columnOf High mid), lowest-grows (b .low) (columnOf Low mid))
 
 pub at-two : (w : List Bar) → middleAt w 2 ≡ middleOf []

@@ -8,7 +8,7 @@ use Rattle.measures.specs.Bar.{Bar}
 use Rattle.measures.specs.declared.folds.Column.{Column}
 use Rattle.measures.specs.declared.folds.Column.the-variants.{Close, High, Low}
 use Rattle.measures.specs.Price.{maxOf, minOf}
-use Rattle.measures.specs.Fold.{columnOf, highestOf, lowestOf, sumOf, sizeOf, varianceOf, everyOf}
+use Rattle.measures.specs.Fold.{columnOf, highestOf, lowestOf, sumOf, sizeOf, varianceOf, everyOf, extremesOf}
 use Rattle.measures.proofs.Order.{lt-asym, known-left, known-right, max-both, min-both}
 use Rattle.measures.proofs.FoldLaws.{every-above, every-below}
 use Rattle.rule_types.specs.declared.label.Label.the-variants.{Other, RisingThreeMethods, FallingThreeMethods, Bottom, Top}
@@ -50,34 +50,28 @@ module _ (first last : Bar) (m : Middle) where
 
 -- ---- 17: the bodies and the variance are left
 
--- every low above the larger of two known bounds, in a window that varies little: no low is NaN, and the lowest is above both. Of no bar the
--- variance is NaN, so that every low of none does not count
+-- of no bar the variance is NaN
 no-variance : (c : Column) → lt (varianceOf (columnOf c [])) aHalf ≡ false
 unfolding varianceOf columnOf sumOf sizeOf lt div ofInt ofBits
 no-variance c = refl
 
+-- so what two tests of a middle's bars say alike where there is one, they say alike beside its variance
+beside-variance : (c : Column) (P Q : List Bar → Bool) → ((x : Bar) (mid : List Bar) → P (x ∷ mid) ≡ Q (x ∷ mid))
+    → (mid : List Bar) → (lt (varianceOf (columnOf c mid)) aHalf && P mid) ≡ (lt (varianceOf (columnOf c mid)) aHalf && Q mid)
+beside-variance c P Q same [] = simp (no-variance c)
+beside-variance c P Q same (x ∷ mid) = rw (same x mid)
+
+-- every low above the larger of two known bounds: no low is NaN, and the lowest is above both; and the mirror of it
 module _ (a b : Float) (ka : isNan a ≡ false) (kb : isNan b ≡ false) where
   lows-above : (x : Bar) (mid : List Bar)
       → everyOf (λ y. lt (maxOf a b) y) (columnOf Low (x ∷ mid)) ≡ (middleOf (x ∷ mid) .lows && (lt a (middleOf (x ∷ mid) .lowest) && lt b (middleOf (x ∷ mid) .lowest)))
-  unfolding middleOf columnOf
+  unfolding middleOf extremesOf columnOf
   lows-above x mid = every-above (maxOf a b) (x .low) (columnOf Low mid) ∙ rw (max-both a b (lowestOf (columnOf Low (x ∷ mid))) ka kb)
 
   highs-below : (x : Bar) (mid : List Bar)
       → everyOf (λ y. lt y (minOf a b)) (columnOf High (x ∷ mid)) ≡ (middleOf (x ∷ mid) .highs && (lt (middleOf (x ∷ mid) .highest) a && lt (middleOf (x ∷ mid) .highest) b))
-  unfolding middleOf columnOf
+  unfolding middleOf extremesOf columnOf
   highs-below x mid = every-below (minOf a b) (x .high) (columnOf High mid) ∙ rw (min-both a b (highestOf (columnOf High (x ∷ mid))) ka kb)
-
-  level-above : (mid : List Bar)
-      → (lt (varianceOf (columnOf High mid)) aHalf && everyOf (λ x. lt (maxOf a b) x) (columnOf Low mid))
-      ≡ (lt (varianceOf (columnOf High mid)) aHalf && (middleOf mid .lows && (lt a (middleOf mid .lowest) && lt b (middleOf mid .lowest))))
-  level-above [] = simp (no-variance High)
-  level-above (x ∷ mid) = rw (lows-above x mid)
-
-  level-below : (mid : List Bar)
-      → (lt (varianceOf (columnOf Low mid)) aHalf && everyOf (λ x. lt x (minOf a b)) (columnOf High mid))
-      ≡ (lt (varianceOf (columnOf Low mid)) aHalf && (middleOf mid .highs && (lt (middleOf mid .highest) a && lt (middleOf mid .highest) b)))
-  level-below [] = simp (no-variance Low)
-  level-below (x ∷ mid) = rw (highs-below x mid)
 
 -- the ends' test, in the order in which the code asks: the ends and the extremes, the bodies, the variance
 reordered : (lead v k p q : Bool) → (lead && (v && (k && (p && q)))) ≡ (k && p && q && (lead && v))
@@ -104,24 +98,26 @@ module _ (s : List Bar) where
   mid = innerOf s
 
   rises-by : risesOf s ≡ (mayRise f l (middleOf mid) && lt (highestOf (columnOf Close mid)) (f .close))
-  unfolding risesOf mayRise middleOf
+  unfolding risesOf mayRise middleOf extremesOf
   rises-by = simp and-assoc
 
   falls-by : fallsOf s ≡ (mayFall f l (middleOf mid) && lt (f .close) (lowestOf (columnOf Close mid)))
-  unfolding fallsOf mayFall middleOf
+  unfolding fallsOf mayFall middleOf extremesOf
   falls-by = simp and-assoc
 
   top-by : topOf s ≡ (mayBeTop f l (middleOf mid) && (endsLead s && lt (varianceOf (columnOf High mid)) aHalf))
   unfolding topOf mayBeTop
   top-by =
       in-order (endsLead s) _ _ (lt (varianceOf (columnOf High mid)) aHalf) (everyOf (λ x. lt (maxOf (f .«open») (l .close)) x) (columnOf Low mid)) _ _ _
-      (λ up down. level-above (f .«open») (l .close) (known-left (f .«open») (f .close) up) (known-left (l .close) (l .«open») down) mid)
+      (λ up down. beside-variance High (λ s. everyOf (λ x. lt (maxOf (f .«open») (l .close)) x) (columnOf Low s)) (λ s. middleOf s .lows && (lt (f .«open») (middleOf s .lowest) && lt (l .close) (middleOf s .lowest)))
+      (lows-above (f .«open») (l .close) (known-left (f .«open») (f .close) up) (known-left (l .close) (l .«open») down)) mid)
 
   bottom-by : bottomOf s ≡ (mayBeBottom f l (middleOf mid) && (endsLead s && lt (varianceOf (columnOf Low mid)) aHalf))
   unfolding bottomOf mayBeBottom
   bottom-by =
       in-order (endsLead s) _ _ (lt (varianceOf (columnOf Low mid)) aHalf) (everyOf (λ x. lt x (minOf (f .«open») (l .close))) (columnOf High mid)) _ _ _
-      (λ down up. level-below (f .«open») (l .close) (known-right (f .close) (f .«open») down) (known-right (l .«open») (l .close) up) mid)
+      (λ down up. beside-variance Low (λ s. everyOf (λ x. lt x (minOf (f .«open») (l .close))) (columnOf High s)) (λ s. middleOf s .highs && (lt (middleOf s .highest) (f .«open») && lt (middleOf s .highest) (l .close)))
+      (highs-below (f .«open») (l .close) (known-right (f .close) (f .«open») down) (known-right (l .«open») (l .close) up)) mid)
 
   abbrev may : Shape → Bool
   may shape = mayBe shape f l (middleOf mid)

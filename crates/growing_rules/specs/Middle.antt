@@ -8,7 +8,7 @@ use Rattle.measures.specs.Bar.{Bar}
 use Rattle.measures.specs.declared.folds.Column.the-variants.{High, Low}
 use Rattle.measures.specs.Price.{maxOf, minOf}
 use Rattle.measures.specs.Window.{windowOf}
-use Rattle.measures.specs.Fold.{columnOf, highestOf, lowestOf, everyOf}
+use Rattle.measures.specs.Fold.{columnOf, everyOf, extremesOf}
 use Rattle.rule_types.specs.declared.label.Pair.{Pair}
 use Rattle.rule_types.specs.Label.{pairA}
 use Rattle.growing_rules.specs.declared.Ends.{Ends}
@@ -23,8 +23,8 @@ use Rattle.growing_rules.specs.GrowingRule.{firstMatch, innerOf, checkOf
 -- the highest high and the lowest low by 01's folds, which pass NaN over; and whether no high, no low is NaN
 unfoldable pub middleOf : List Bar → Middle
 middleOf mid = record {
-  highest = highestOf (columnOf High mid);
-  lowest = lowestOf (columnOf Low mid);
+  highest = extremesOf mid .highest;
+  lowest = extremesOf mid .lowest;
   highs = everyOf (λ x. not (isNan x)) (columnOf High mid);
   lows = everyOf (λ x. not (isNan x)) (columnOf Low mid);
 }

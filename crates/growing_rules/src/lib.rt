@@ -321,7 +321,7 @@ const METHODS_END: usize = 9;
 const TOWER_END: usize = 10;
 
 // What is found with the window of n bars, after the smaller ones. The tests of both recognisers are made before either goes on: a call
-// between them would cost the values that both read.
+// between them would cost the values that both read. One function for each, since one for both would be called for every window.
 fn methods_at(found: Pair, end: usize, w: &[f64], n: usize, may: bool) -> Pair
     requires { ⌜ (5 ≤ n) × (n < 10) × (found ≡ foundOf shapes.ThreeMethods end (barsOf (now w)) n) × (may ≡ mayBe shapes.ThreeMethods (backOf (barsOf (now w)) n) (backOf (barsOf (now w)) 1) (middleAt (barsOf (now w)) n)) ⌝ }
     ensures { λ r. ⌜ r ≡ foundOf shapes.ThreeMethods end (barsOf (now (w .entry))) (n + 1) ⌝ }

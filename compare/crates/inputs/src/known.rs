@@ -129,24 +129,24 @@ fn misreadings() -> Vec<Known> {
 fn middles() -> Vec<Known> {
     let top = |low: &str| format!("0/5/5/0 4/4/6/{low} 2*4/4/6/3 5/0/5/0");
     let bottom = |high: &str| format!("6/1/6/1 2/2/{high}/0 2*2/2/3/0 1/6/6/1");
-    vec![
-        named(
-            "17: a NaN low is not above the bound",
-            known(17, &top("nan"), Pair(Other, Other)),
-        ),
-        named(
-            "the same with a number",
-            known(17, &top("3"), Pair(Top, K5)),
-        ),
-        named(
-            "17: a NaN high is not below the bound",
-            known(17, &bottom("nan"), Pair(Other, Other)),
-        ),
-        named(
-            "the same with a number",
-            known(17, &bottom("3"), Pair(Bottom, K5)),
-        ),
+    let with_and_without = |name, [nan, number]: [String; 2], label| {
+        [
+            named(name, known(17, &nan, Pair(Other, Other))),
+            named(
+                "the same with a number",
+                known(17, &number, Pair(label, K5)),
+            ),
+        ]
+    };
+    let tops = ["nan", "3"].map(top);
+    let bottoms = ["nan", "3"].map(bottom);
+    [
+        with_and_without("17: a NaN low is not above the bound", tops, Top),
+        with_and_without("17: a NaN high is not below the bound", bottoms, Bottom),
     ]
+    .into_iter()
+    .flatten()
+    .collect()
 }
 
 /// What was found about the papers.

@@ -1,18 +1,14 @@
 -- The loop's invariant: the extremes of the middle at n bars, and what is found in the windows of fewer. Assumes nothing.
 use Prim.Native.Nat.{_-_, _≤_}
-use mathlib.Core.Path.{_≡_, refl, sym, _∙_}
-use mathlib.Core.Bool.{Bool, true, false, not}
+use mathlib.Core.Path.{_≡_, _∙_}
 use native.Mathlib.Omega.{arith}
+use borrow.Author.Tests.{not-true}
 use Rattle.measures.specs.Bar.{barsOf}
 use Rattle.measures.specs.Window.{backOf}
 use Rattle.growing_rules.specs.Middle.{middleAt, beyond, searchedOf}
 use Rattle.growing_rules.proofs.GrowingNeeds.{search-ends, searched-none}
 use Rattle.growing_rules.proofs.search.Statement.{statement}
 use Rattle.growing_rules.proofs.search.Tie as tie
-
-negated : (t : Bool) → not t ≡ true → t ≡ false
-negated true h = sym h
-negated false h = refl
 
 abbrev Inv-loop : tie.InvT-loop
 Inv-loop ends w last m₀ found₀ n₀ m found n = (5 ≤ n) × (n ≤ 10) × (m ≡ middleAt (barsOf w) n) × (found ≡ searchedOf ends (barsOf w) n)
@@ -34,7 +30,7 @@ returns c =
     let w = barsOf (a .w .now) in
     let now = at-loop .loop in
     let unmet = rw (tested .is-beyond .ensures, read .back .ensures, now .inv .2) at (c .if1 .taken) in
-    now .inv .3 ∙ search-ends w (now .n) (omega arith) (omega arith) (negated (beyond (backOf w 1) (middleAt w (now .n))) unmet) (a .ends)
+    now .inv .3 ∙ search-ends w (now .n) (omega arith) (omega arith) (not-true (beyond (backOf w 1) (middleAt w (now .n))) unmet) (a .ends)
 
 try-window-requires : tie.Need-try-window-requires Inv-loop μ-loop
 try-window-requires c κs = let now = c .before .before .before .loop in (omega arith, omega arith, now .inv .3, now .inv .2)

@@ -1,11 +1,11 @@
 -- The code is the definition. Assumes nothing.
-use Rattle.measures.specs.Fold.{columnOf, highestOf, lowestOf, everyOf}
+use Rattle.measures.specs.Fold.{columnOf, highestOf, lowestOf, everyOf, extremesOf}
 use Rattle.growing_rules.specs.Middle.{middleOf}
 use Rattle.growing_rules.proofs.middle.no_middle.Statement.{statement}
 use Rattle.growing_rules.proofs.middle.no_middle.Tie as tie
 
 returns : tie.Need-returns
-unfolding middleOf columnOf highestOf lowestOf everyOf
+unfolding middleOf extremesOf columnOf highestOf lowestOf everyOf
 returns c = simp (c .plus-infinity .ensures, c .before .minus-infinity .ensures)
 
 pub no-middle-spec : {M : Type 1} → statement M
