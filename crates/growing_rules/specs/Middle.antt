@@ -1,5 +1,5 @@
 -- 02, P2: the extremes of a window's middle, the bars between its first and its last, which run along as the window grows; and what the code
--- asks of them.
+-- asks of them. No public promise cites this file: those of 4 and 17 are in GrowingRule.
 use Prim.Native.Nat.{ℕ, _-_, min}
 use mathlib.Core.Bool.{Bool, not, _&&_, _||_}
 use mathlib.Core.List.{List}
