@@ -10,6 +10,10 @@ use lib.Ieee.{Float, binary64, ofBits, ofInt}
 abbrev pub recognisers : ℕ
 recognisers = 18
 
+-- the labels, with codes from 0
+abbrev pub labels : ℕ
+labels = 38
+
 -- a sheet's row: two codes for each recogniser
 abbrev pub rowBytes : ℕ
 rowBytes = 2 * recognisers

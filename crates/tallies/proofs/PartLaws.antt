@@ -1,0 +1,44 @@
+-- Bars taken in and counted in two parts, one after the other, for every box and tally. Assumes nothing.
+use Prim.Native.Nat.{ℕ, _+_, _*_, _/_}
+use mathlib.Core.Bool.{true}
+use mathlib.Core.List.{List, _++_}
+use mathlib.Core.Path.{_≡_, ap, sym, _∙_}
+use native.Mathlib.Omega.{arith}
+use lib.ListN.{length}
+use Rattle.measures.specs.Bar.{Bar}
+use Rattle.measures.specs.Window.{newest}
+use Rattle.recognisers.specs.Number.{rowBytes, places}
+use Rattle.bar_box.specs.declared.boxes.BarBox.{BarBox}
+use Rattle.bar_box.specs.Sheet.{before, rowsOf}
+use Rattle.bar_box.specs.Box.{kept, takenIn}
+use Rattle.bar_box.proofs.SheetLaws.{length-rows, rows-append, rows-near}
+use Rattle.bar_box.proofs.BoxLaws.{newest-newest, kept-taken}
+use Rattle.tallies.specs.declared.table.TallyRow.{TallyRow}
+use Rattle.tallies.specs.Tally.{Shaped, addsUp, counted}
+use Rattle.tallies.proofs.RowLaws.{rows-known, counted-adds, counted-append}
+
+-- the rows of bars that a box takes in
+abbrev pub rowsFrom : BarBox → List Bar → List ℕ
+rowsFrom b bars = rowsOf (b .thresholds) (b .count) (kept b) bars
+
+module _ (b : BarBox) (all : length (b .bars) ≡ places) where
+  -- the rows of both parts are those of the first, and then those of the second after it
+  pub rows-parts : (xs ys : List Bar) → rowsFrom b (xs ++ ys) ≡ rowsFrom b xs ++ rowsFrom (takenIn b xs) ys
+  rows-parts xs ys =
+      let t = b .thresholds in
+      let h = kept b ++ xs in
+      rw (kept-taken b all xs, rows-near t (b .count + length xs) (newest places h) h ys (newest-newest places before h (omega arith))) (rows-append t (b .count) (kept b) xs ys)
+
+  module _ (tally : List TallyRow) (shaped : Shaped tally) where
+    -- after the first part the tally adds up to the bars
+    pub parts-add : (xs : List Bar) → addsUp (b .count) tally ≡ true → addsUp (takenIn b xs .count) (counted (rowsFrom b xs) tally) ≡ true
+    parts-add xs adds =
+        let rows = rowsFrom b xs in
+        let size : b .count + length rows / rowBytes ≡ b .count + length xs = omega (arith, length-rows (b .thresholds) (b .count) (kept b) xs) in
+        rw size at (counted-adds tally shaped rows (b .count) (rows-known (b .thresholds) (b .count) (kept b) xs) adds)
+
+    -- the second part is counted after the first as both are at once
+    pub parts-counted : (xs ys : List Bar) → counted (rowsFrom (takenIn b xs) ys) (counted (rowsFrom b xs) tally) ≡ counted (rowsFrom b (xs ++ ys)) tally
+    parts-counted xs ys =
+        counted-append tally shaped (rowsFrom b xs) (rowsFrom (takenIn b xs) ys) (length xs) (length-rows (b .thresholds) (b .count) (kept b) xs)
+        ∙ ap (λ (rows : List ℕ). counted rows tally) (sym (rows-parts xs ys))

@@ -1,0 +1,15 @@
+-- Assumes nothing.
+use mathlib.Core.Path.{refl}
+use Rattle.tallies.specs.Tally.{freshTally}
+use Rattle.tallies.proofs.table.fresh.Statement.{statement}
+use Rattle.tallies.proofs.table.fresh.Tie as tie
+use Rattle.tallies.proofs.table.fresh.Reads as reads
+use Rattle.tallies.proofs.table.fresh.Lts as lts
+
+-- src/table.rt:11:1
+returns : tie.Need-returns
+unfolding freshTally
+returns c = refl
+
+pub fresh-spec : {M : Type 1} → statement M
+fresh-spec = tie.close (tie.spec returns)

@@ -1,0 +1,41 @@
+-- A feed with a tally, for every box and tally that a caller can hand in.
+use Prim.Native.Nat.{ℕ, _+_, _/_, _%_}
+use mathlib.Core.Bool.{not}
+use mathlib.Core.List.{List, [], _∷_}
+use lib.Dec.{eqb}
+use lib.ListN.{length}
+use lib.Ieee.{Float}
+use Rattle.recognisers.specs.Threshold.{Thresholds}
+use Rattle.recognisers.specs.declared.call.Refusal.the-variants.{TooManyBars}
+use Rattle.recognisers.specs.declared.call.Verdict.{Verdict}
+use Rattle.recognisers.specs.Refusal.{Tried, tried, badThreshold, brokenBars, tooManyBars, shortSheet, firstTrue}
+use Rattle.bar_box.specs.declared.boxes.BarBox.{BarBox}
+use Rattle.bar_box.specs.Box.{leaves, sheetOf}
+use Rattle.bar_box.specs.History.{Feed, fed, rowsIn}
+use Rattle.tallies.specs.declared.table.TallyRow.{TallyRow}
+use Rattle.tallies.specs.declared.feeds.Tallied.{Tallied}
+use Rattle.tallies.specs.Tally.{addsUp, counted}
+
+-- what a feed is lent
+abbrev pub lent : List Float → List ℕ → Feed
+lent prices sheet = record { prices = prices; sheet = sheet }
+
+-- 5 also covers a tally with a row that doesn't add up to the box's N.
+abbrev pub wrongTally : ℕ → List TallyRow → Tried
+wrongTally n tally = tried (not (addsUp n tally)) TooManyBars
+
+-- it tries 3 to 6, as a feed does, with the tally's test beside the other of 5
+unfoldable pub tallyVerdict : Thresholds → ℕ → List TallyRow → ℕ → ℕ → Verdict
+tallyVerdict t n tally prices sheet =
+    firstTrue (badThreshold t ∷ brokenBars (eqb (prices % 4) 0) ∷ tooManyBars (n + prices / 4) ∷ wrongTally n tally ∷ shortSheet sheet (prices / 4) ∷ [])
+
+abbrev pub verdictWith : BarBox → List TallyRow → Feed → Verdict
+verdictWith b tally f = tallyVerdict (b .thresholds) (b .count) tally (length (f .prices)) (length (f .sheet))
+
+-- box and sheet are those of a feed, and its rows are counted; a refusal leaves box, tally and sheet as they were
+unfoldable pub talliedOf : BarBox → List TallyRow → Feed → Tallied
+talliedOf b tally f =
+    let v = verdictWith b tally f in record { verdict = v; after = leaves v b (fed b f .after); tally = leaves v tally (counted (rowsIn b f) tally) }
+
+unfoldable pub talliedSheet : BarBox → List TallyRow → Feed → List ℕ
+talliedSheet b tally f = leaves (verdictWith b tally f) (f .sheet) (sheetOf b (f .prices) (f .sheet))

@@ -1,0 +1,82 @@
+-- What a list of feeds with a tally leaves, said of the list at once. The first part follows the calls; the second says what holds of them,
+-- beside the same list of feeds without a tally, the joined history and the joined rows of demand 3.
+use Prim.Native.Nat.{ℕ, _+_, _*_, _≤_, _<_}
+use mathlib.Core.Bool.{Bool}
+use mathlib.Core.List.{List, [], _∷_, _++_}
+use mathlib.Core.Path.{_≡_}
+use lib.Dec.{eqb}
+use lib.ListN.{length, take}
+use Rattle.measures.specs.Bar.{Bar, barsOf}
+use Rattle.recognisers.specs.Number.{recognisers, labels, rowBytes}
+use Rattle.recognisers.specs.Label.{codeOf}
+use Rattle.recognisers.specs.Table.{pairAt}
+use Rattle.recognisers.specs.Threshold.{Thresholds}
+use Rattle.recognisers.specs.declared.call.Verdict.{Verdict}
+use Rattle.bar_box.specs.declared.boxes.BarBox.{BarBox}
+use Rattle.bar_box.specs.Box.{leaves, sheetOf}
+use Rattle.bar_box.specs.History.{Feed, historyAfter, fed, boxAfter, verdictsOf, joinedRows, oneFeed, Holds, NoBars}
+use Rattle.tallies.specs.declared.table.TallyRow.{TallyRow}
+use Rattle.tallies.specs.declared.feeds.Tallied.{Tallied}
+use Rattle.tallies.specs.Tally.{freshTally, countsOf, cellOf, totalOf, countBelow, rowsWith}
+use Rattle.tallies.specs.Feed.{verdictWith, talliedOf, talliedSheet}
+
+-- ---- the calls, as the contract of a feed with a tally has them
+
+-- the first feed is handed the fresh box and the fresh tally, each later one those that the feed before it left, refused or not
+unfoldable pub boxWith : BarBox → List TallyRow → List Feed → BarBox
+boxWith b tally [] = b
+boxWith b tally (f ∷ fs) = boxWith (talliedOf b tally f .after) (talliedOf b tally f .tally) fs
+
+unfoldable pub tallyAfter : BarBox → List TallyRow → List Feed → List TallyRow
+tallyAfter b tally [] = tally
+tallyAfter b tally (f ∷ fs) = tallyAfter (talliedOf b tally f .after) (talliedOf b tally f .tally) fs
+
+unfoldable pub verdictsWith : BarBox → List TallyRow → List Feed → List Verdict
+verdictsWith b tally [] = []
+verdictsWith b tally (f ∷ fs) = talliedOf b tally f .verdict ∷ verdictsWith (talliedOf b tally f .after) (talliedOf b tally f .tally) fs
+
+-- the sheets, as they stand when their feeds return
+unfoldable pub sheetsWith : BarBox → List TallyRow → List Feed → List (List ℕ)
+sheetsWith b tally [] = []
+sheetsWith b tally (f ∷ fs) = talliedSheet b tally f ∷ sheetsWith (talliedOf b tally f .after) (talliedOf b tally f .tally) fs
+
+-- and the joined rows
+unfoldable pub rowsAfter : BarBox → List TallyRow → List Feed → List ℕ
+rowsAfter b tally [] = []
+rowsAfter b tally (f ∷ fs) =
+    leaves (talliedOf b tally f .verdict) [] (take (rowBytes * length (barsOf (f .prices))) (talliedSheet b tally f))
+    ++ rowsAfter (talliedOf b tally f .after) (talliedOf b tally f .tally) fs
+
+-- those of feeds without a tally
+unfoldable pub sheetsOf : BarBox → List Feed → List (List ℕ)
+sheetsOf b [] = []
+sheetsOf b (f ∷ fs) = sheetOf b (f .prices) (f .sheet) ∷ sheetsOf (fed b f .after) fs
+
+-- ---- what holds of them
+
+-- how many bars of a history get code c as v1 of recogniser k, each over the history up to it
+unfoldable pub barsWith : Thresholds → List Bar → ℕ → ℕ → ℕ
+barsWith t h k c = countBelow (λ i. eqb (codeOf (pairAt k t (i + 1) (take (i + 1) h) 1 .v1)) c) (length h)
+
+-- after a list of feeds fs to a box b without bars; h is the joined history, and sheet one that is long enough for it
+pub record TallyHolds (b : BarBox) (fs : List Feed) (h : List Bar) (sheet : List ℕ) : Type 0 where
+  -- verdicts, sheets, rows and box are those of the same list of feeds without a tally
+  pub same-verdicts : verdictsWith b freshTally fs ≡ verdictsOf b fs
+  pub same-sheets : sheetsWith b freshTally fs ≡ sheetsOf b fs
+  pub same-rows : rowsAfter b freshTally fs ≡ joinedRows b fs
+  pub same-box : boxWith b freshTally fs ≡ boxAfter b fs
+  -- of which demand 3 holds
+  pub demand-3 : Holds b fs h sheet
+  -- each row adds up to the number of bars fed
+  pub sums : (k : ℕ) → k < recognisers → totalOf (countsOf (tallyAfter b freshTally fs) k) ≡ length h
+  -- each cell is the number of joined sheet rows that have that code as v1 of that recogniser
+  pub cells : (k c : ℕ) → k < recognisers → c < labels → cellOf (tallyAfter b freshTally fs) k c ≡ rowsWith (joinedRows b fs) k c
+  -- which is the number of bars that get it from the rules over the history up to each
+  pub by-rules : (k c : ℕ) → k < recognisers → c < labels → cellOf (tallyAfter b freshTally fs) k c ≡ barsWith (b .thresholds) h k c
+  -- however the history is cut into feeds, the table is that of one feed of it
+  pub same-tally : tallyAfter b freshTally fs ≡ talliedOf b freshTally (oneFeed h sheet) .tally
+
+-- for every list of feeds to every box without bars
+abbrev pub Tallies : Type 0
+Tallies = (b : BarBox) → NoBars b → (fs : List Feed) (sheet : List ℕ)
+    → let h = historyAfter (b .thresholds) [] fs in rowBytes * length h ≤ length sheet → TallyHolds b fs h sheet

@@ -1,0 +1,73 @@
+// A feed with a tally.
+ghost use mathlib.Core.Path.{_≡_};
+ghost use lib.ListN.{length};
+ghost use Rattle.tallies.specs.Tally.{Shaped};
+ghost use Rattle.tallies.specs.Feed.{lent, tallyVerdict, talliedOf, talliedSheet};
+use crate::counts;
+use crate::table;
+use crate::table::TallyRow;
+use bar_box::BarBox;
+use bar_box::feeds::feed_verdict;
+use recognisers::Thresholds;
+use recognisers::call::Refusal;
+use recognisers::call::Verdict;
+use recognisers::counts::ROW_BYTES;
+
+// Whether a feed is refused, and the box and the tally after it.
+pub struct Tallied {
+    pub verdict: Verdict,
+    pub after: BarBox,
+    pub tally: [TallyRow; 18],
+}
+
+// The first of the refusals 3 to 6 that is true of a feed with a tally to a box that counts n bars; 5 also covers a tally with a row that
+// doesn't add up to n.
+pub fn tally_verdict(
+    t: Thresholds,
+    n: u32,
+    tally: [TallyRow; 18],
+    prices: usize,
+    sheet: usize,
+) -> Verdict
+    ensures { λ r. ⌜ (r ≡ tallyVerdict t n tally prices sheet) × (Shaped tally) ⌝ }
+{
+    let right = table::adds_up(tally, n);
+    // a sheet that is long enough for any feed: the test of the sheet comes behind the tally's
+    match feed_verdict(t, n, prices, usize::MAX) {
+        Verdict::Denied(why) => Verdict::Denied(why),
+        Verdict::Accepted => {
+            if !right {
+                Verdict::Denied(Refusal::TooManyBars)
+            } else if sheet < ROW_BYTES * (prices / 4) {
+                Verdict::Denied(Refusal::ShortSheet)
+            } else {
+                Verdict::Accepted
+            }
+        }
+    }
+}
+
+// Takes the lent bars in, writes a row for each and counts it, or refuses and leaves box, tally and sheet as they were.
+pub fn feed(b: BarBox, tally: [TallyRow; 18], prices: &[f64], sheet: &mut [u8]) -> Tallied
+    ensures { λ r. ⌜ (r ≡ talliedOf b tally (lent (now (prices .entry)) (now (sheet .entry)))) × (now (sheet .exit) ≡ talliedSheet b tally (lent (now (prices .entry)) (now (sheet .entry)))) × (Shaped tally) ⌝ }
+{
+    let t = b.thresholds;
+    let n = b.count;
+    match tally_verdict(t, n, tally, prices.len(), sheet.len()) {
+        Verdict::Denied(why) => Tallied {
+            verdict: Verdict::Denied(why),
+            after: b,
+            tally,
+        },
+        Verdict::Accepted => {
+            let fed = bar_box::feed(b, prices, sheet);
+            let after = fed.after;
+            let bytes = ROW_BYTES * measures::count(prices);
+            Tallied {
+                verdict: Verdict::Accepted,
+                after,
+                tally: counts::count(tally, n, &sheet[..bytes]),
+            }
+        }
+    }
+}
