@@ -30,7 +30,7 @@ abbrev pub partOf : List Float → ℕ → ℕ → List Float
 partOf ps from n = take (4 * (from + n) - 4 * from) (drop (4 * from) ps)
 
 -- their bars
-part-bars : (ps : List Float) (from n : ℕ) → barsOf (partOf ps from n) ≡ take n (drop from (barsOf ps))
+pub part-bars : (ps : List Float) (from n : ℕ) → barsOf (partOf ps from n) ≡ take n (drop from (barsOf ps))
 part-bars ps from n =
     let size : 4 * (from + n) - 4 * from ≡ n * 4 = omega arith in
     let at : 4 * from ≡ from * 4 = omega arith in
@@ -80,7 +80,7 @@ module _ (b : BarBox) (ps : List Float) (sheet : List ℕ) (e : feedVerdict (b .
 
 module _ (b : BarBox) (ps : List Float) (s : List ℕ) (from n : ℕ) (e : feedVerdict (b .thresholds) (b .count) (4 * n) (36 * n) ≡ Accepted) (bars : from + n ≤ length (barsOf ps)) (room : 36 * (from + n) ≤ length s) where
   -- it is accepted
-  part-accepted : feedVerdict (b .thresholds) (b .count) (length (partOf ps from n)) (length (restOf s (36 * from))) ≡ Accepted
+  pub part-accepted : feedVerdict (b .thresholds) (b .count) (length (partOf ps from n)) (length (restOf s (36 * from))) ≡ Accepted
   part-accepted =
       let f = fits _ _ _ _ e in
       let size = length-part ps from n bars in

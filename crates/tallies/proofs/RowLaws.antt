@@ -13,10 +13,10 @@ use Rattle.recognisers.specs.Table.{pairsAt, codesOf}
 use Rattle.recognisers.specs.Threshold.{Thresholds}
 use Rattle.bar_box.specs.Sheet.{rowOf, rowsOf}
 use Rattle.tallies.specs.declared.table.TallyRow.{TallyRow}
-use Rattle.tallies.specs.Tally.{freshTally, rowOfCounts, countsOf, cellOf, Shaped, totalOf, addsUp, v1In, rowsWith, byPlace, gained, counted}
+use Rattle.tallies.specs.Tally.{freshTally, rowOfCounts, countsOf, cellOf, Shaped, totalOf, addsUp, countBelow, v1In, rowsWith, byPlace, gainRow, gained, counted}
 use Rattle.tallies.specs.Count.{Known}
-use Rattle.tallies.proofs.PlaceLaws.{length-places}
-use Rattle.tallies.proofs.TallyLaws.{row-adds, rows-add, counts-gained, gained-same, gained-gained}
+use Rattle.tallies.proofs.PlaceLaws.{length-places, places-kept}
+use Rattle.tallies.proofs.TallyLaws.{row-adds, rows-add, gain-none, counts-gained, gained-same, gained-gained}
 use Rattle.tallies.proofs.CountLaws.{total-counted, with-append}
 
 -- ---- each byte of a row is a label's code
@@ -59,6 +59,11 @@ unfolding freshTally addsUp totalOf
 fresh-adds = refl
 
 -- ---- counted rows
+
+-- of no rows
+pub none-counted : (tally : List TallyRow) → counted [] tally ≡ tally
+unfolding counted rowsWith countBelow
+none-counted tally = places-kept (λ k row. rowOfCounts (gainRow (λ c. 0) (row .counts))) 0 tally (λ k row. ap rowOfCounts (gain-none (row .counts)))
 
 module _ (tally : List TallyRow) (shaped : Shaped tally) where
   pub counted-shaped : (rows : List ℕ) → Shaped (counted rows tally)

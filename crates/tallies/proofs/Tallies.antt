@@ -26,13 +26,13 @@ use Rattle.bar_box.proofs.FeedLists.{sound-empty, sound-after, at-start, rows-a
 use Rattle.bar_box.proofs.Demand3.{demand-3}
 use Rattle.tallies.specs.declared.table.TallyRow.{TallyRow}
 use Rattle.tallies.specs.declared.feeds.Tallied.{Tallied}
-use Rattle.tallies.specs.Tally.{rowOfCounts, freshTally, countsOf, cellOf, totalOf, addsUp, countBelow, v1In, rowsWith, gainRow, gained, counted}
+use Rattle.tallies.specs.Tally.{freshTally, countsOf, cellOf, totalOf, addsUp, countBelow, v1In, rowsWith, gained, counted}
 use Rattle.tallies.specs.Feed.{verdictWith, talliedOf, talliedSheet}
 use Rattle.tallies.specs.History.{boxWith, tallyAfter, verdictsWith, sheetsWith, rowsAfter, sheetsOf, barsWith, TallyHolds, Tallies}
-use Rattle.tallies.proofs.PlaceLaws.{at-place, places-kept}
-use Rattle.tallies.proofs.TallyLaws.{row-adds, gain-none, counts-gained, gained-same}
+use Rattle.tallies.proofs.PlaceLaws.{at-place}
+use Rattle.tallies.proofs.TallyLaws.{row-adds, counts-gained, gained-same}
 use Rattle.tallies.proofs.CountLaws.{count-same}
-use Rattle.tallies.proofs.RowLaws.{rows-known, fresh-shaped, fresh-cell, fresh-adds, counted-shaped, counted-adds, counted-append}
+use Rattle.tallies.proofs.RowLaws.{rows-known, fresh-shaped, fresh-cell, fresh-adds, counted-shaped, counted-adds, none-counted, counted-append}
 use Rattle.tallies.proofs.FeedLaws.{plain-verdict}
 
 -- ---- the tally that a history leaves
@@ -157,13 +157,9 @@ tally-bars t h =
 -- ---- the theorem
 
 -- before the first bar the tally is the fresh one
-none-counted : counted [] freshTally ≡ freshTally
-unfolding counted rowsWith countBelow
-none-counted = places-kept (λ k row. rowOfCounts (gainRow (λ c. 0) (row .counts))) 0 freshTally (λ k row. ap rowOfCounts (gain-none (row .counts)))
-
 pub tally-none : (t : Thresholds) → tallyOf t [] ≡ freshTally
 unfolding rowsOf
-tally-none t = none-counted
+tally-none t = none-counted freshTally
 
 module _ (b : BarBox) (start : NoBars b) (fs : List Feed) where
   abbrev joined : List Bar
@@ -187,7 +183,7 @@ module _ (b : BarBox) (start : NoBars b) (fs : List Feed) where
     -- one feed of the joined history: where it is refused there is no row
     one-by : (v : Verdict) → fed b one .verdict ≡ v → leaves v freshTally (counted (rowsIn b one) freshTally) ≡ counted (rowsIn b one) freshTally
     one-by Accepted e = refl
-    one-by (Denied r) e = sym (rw e none-counted)
+    one-by (Denied r) e = sym (rw e (none-counted freshTally))
 
     one-tally : talliedOf b freshTally one .tally ≡ tallyOf (b .thresholds) joined
     unfolding talliedOf

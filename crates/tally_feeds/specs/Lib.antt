@@ -1,0 +1,2 @@
+-- The export as definitions.
+pub mod Numbers
