@@ -3,13 +3,14 @@
 //! The rows are the repository's answers at offset 1 over the history up to each bar, a look is its
 //! answer over the whole history; in 01's corners the plain port answers instead.
 
+use crate::counts::Counts;
 use crate::sheet::{Sheet, pair_at};
 use crate::tally::Tally;
 use crate::text;
 use crate::trial::Trial;
 use inputs::looks::Look;
 use inputs::rng::Rng;
-use inputs::{cuts, hostile, looks};
+use inputs::{cuts, hostile, looks, tallies};
 use jcc_types::{Bar, Label, MOST_OFFSET, Pair, RECOGNISERS, REFUSED, ROW_BYTES, Thresholds};
 use oracle::Oracle;
 use oracle::corner::Corner;
@@ -49,8 +50,8 @@ impl Judge {
         for sizes in cuts::all(rng, count) {
             trial.sizes = sizes;
             trial.spare = rng.pick(&SPARE);
-            check_feed(&rows, trial)?;
-            self.tally.rows += count as u64;
+            trial.counts = rng.pick(&tallies::LENGTHS);
+            self.try_feeds(&rows, trial)?;
         }
         self.try_patterns(&rows, trial, rng)?;
         let plain = check_plain_box(&rows, trial)?;
@@ -83,11 +84,17 @@ impl Judge {
         let plain = feed_plain_box(trial, sheet.bytes())?;
         let rows = &sheet.bytes()[..trial.bars.len() * ROW_BYTES];
         self.judge_some_rows(rows, trial)?;
-        check_feed(rows, trial)?;
-        self.tally.rows += trial.bars.len() as u64;
+        self.try_feeds(rows, trial)?;
         for look in looks {
             self.try_look(rows, &plain, trial, *look)?;
         }
+        Ok(())
+    }
+
+    fn try_feeds(&mut self, rows: &[u8], trial: &Trial) -> Result<(), String> {
+        check_feeds(rows, trial)?;
+        self.tally.rows += trial.bars.len() as u64;
+        self.tally.tallies += 1;
         Ok(())
     }
 
@@ -103,7 +110,7 @@ impl Judge {
         }
         for _ in 0..PATTERNS {
             trial.nan = Some(hostile::nan(rng));
-            check_feed(rows, trial)?;
+            check_feeds(rows, trial)?;
             self.tally.patterns += trial.bars.len() as u64;
         }
         trial.nan = None;
@@ -142,7 +149,7 @@ impl Judge {
     fn check(&mut self, trial: &Trial) -> Result<(), String> {
         let rows = self.rows(trial)?;
         let plain = check_plain_box(&rows, trial)?;
-        check_feed(&rows, trial)?;
+        check_feeds(&rows, trial)?;
         match trial.look {
             Some(look) => self.check_look(&rows, &plain, trial, look),
             None => Ok(()),
@@ -288,14 +295,39 @@ fn number(outcome: Result<Pair, u32>) -> u32 {
     }
 }
 
-fn check_feed(rows: &[u8], trial: &Trial) -> Result<(), String> {
+/// The feeds without and with a tally.
+fn check_feeds(rows: &[u8], trial: &Trial) -> Result<(), String> {
+    let prices = trial.prices();
+    check_feed(rows, trial, &prices).map_err(|wrong| format!("jcc_feed, {wrong}"))?;
+    check_tally(rows, trial, &prices).map_err(|wrong| format!("jcc_tally, {wrong}"))
+}
+
+fn check_feed(rows: &[u8], trial: &Trial, prices: &[f64]) -> Result<(), String> {
     let mut sheet = Sheet::new(trial.sheet_len());
     let t = &trial.thresholds;
-    match feeds_export::feed(t, &trial.sizes, &trial.prices(), sheet.bytes()) {
-        0 => sheet
-            .check(rows)
-            .map_err(|wrong| format!("jcc_feed, {wrong}")),
-        refusal => Err(format!("jcc_feed: refusal {refusal} instead of none")),
+    accepted(feeds_export::feed(t, &trial.sizes, prices, sheet.bytes()))?;
+    sheet.check(rows)
+}
+
+fn check_tally(rows: &[u8], trial: &Trial, prices: &[f64]) -> Result<(), String> {
+    let mut sheet = Sheet::new(trial.sheet_len());
+    let mut counts = Counts::new(&tallies::fresh(trial.counts));
+    accepted(tally_export::tally(
+        &trial.thresholds,
+        &trial.sizes,
+        prices,
+        sheet.bytes(),
+        counts.numbers(),
+    ))?;
+    sheet.check(rows)?;
+    counts.check_sums(trial.bars.len())?;
+    counts.check(&port::Tally::of_sheet(rows))
+}
+
+fn accepted(answer: u32) -> Result<(), String> {
+    match answer {
+        0 => Ok(()),
+        refusal => Err(format!("refusal {refusal} instead of none")),
     }
 }
 

@@ -1,7 +1,9 @@
-//! Compares the exports `jcc_feed` and `jcc_look` with the repository's own functions, and both
-//! with the plain box. Stops at the first difference outside 01's two corners.
+//! Compares the exports `jcc_feed`, `jcc_tally` and `jcc_look` with the repository's own functions, and
+//! all with the plain box. Stops at the first difference outside 01's two corners.
 
+mod counts;
 mod judge;
+mod lent;
 mod options;
 mod refused;
 mod sheet;
@@ -39,8 +41,8 @@ fn compare(options: &Options) -> Result<(), String> {
     tally.print();
     println!("{:.0} seconds", start.elapsed().as_secs_f64());
     println!(
-        "feeds: {} rows, {} looks, 0 differences",
-        tally.rows, tally.looks
+        "feeds: {} rows, {} tallies, {} looks, 0 differences",
+        tally.rows, tally.tallies, tally.looks
     );
     Ok(())
 }

@@ -1,12 +1,14 @@
 //! Calls that are refused, with one reason and with several, and their neighbours that are not.
 
+use crate::counts::Counts;
 use crate::judge::Difference;
 use crate::sheet::Sheet;
 use crate::tally::Tally;
 use crate::text;
 use inputs::looks::Look;
-use inputs::refusals;
-use jcc_types::{Answer, BAR_PRICES, Bar, MAX_BARS, REFUSED, ROW_BYTES, Thresholds};
+use inputs::{refusals, tallies};
+use jcc_types::{Answer, BAR_PRICES, Bar, MAX_BARS, REFUSED, ROW_BYTES, TALLY_COUNTS, Thresholds};
+use port::PlainBox;
 
 /// Accepted calls have no more bars than this; a longer one is not a matter of refusals.
 const MOST_ACCEPTED: usize = 100;
@@ -15,12 +17,21 @@ const MOST_ACCEPTED: usize = 100;
 const SIZES: [&[u32]; 4] = [&[], &[1], &[0, 2], &[u32::MAX]];
 
 /// A call with a part of the prices of a long walk.
+#[derive(Clone, Copy)]
 struct Call<'a> {
     thresholds: &'a Thresholds,
     sizes: &'a [u32],
     prices: &'a [f64],
     sheet_len: usize,
-    look: Option<Look>,
+    export: Export<'a>,
+}
+
+/// The export that is called, with what it alone is handed.
+#[derive(Clone, Copy)]
+enum Export<'a> {
+    Feed,
+    Look(Look),
+    Tally(&'a [u32]),
 }
 
 /// The walk has one bar more than there may be.
@@ -32,27 +43,32 @@ pub fn all(tally: &mut Tally, walk: &[Bar]) -> Result<(), Difference> {
         call.check()
             .map_err(|wrong| Difference(call.report(&wrong)))
     };
-    short_feeds(&prices, &mut try_call)?;
-    long_feeds(&prices, &mut try_call)?;
-    looks(&prices, &mut try_call)
+    let fresh = tallies::fresh(TALLY_COUNTS);
+    let other = tallies::of_bars(1);
+    let feeds = [Export::Feed, Export::Tally(&fresh), Export::Tally(&other)];
+    short_feeds(&prices, feeds, &mut try_call)?;
+    long_feeds(&prices, feeds, &mut try_call)?;
+    looks(&prices, &mut try_call)?;
+    all_tallies(&prices, &mut try_call)
 }
 
 /// All thresholds, numbers of prices and lengths of sheets together, as long as they are short.
 fn short_feeds(
     prices: &[f64],
+    exports: [Export; 3],
     try_call: &mut impl FnMut(Call) -> Result<(), Difference>,
 ) -> Result<(), Difference> {
     for thresholds in &refusals::thresholds() {
         for count in refusals::price_counts() {
             let bars = (count / BAR_PRICES).min(MOST_ACCEPTED);
             for sheet_len in refusals::sheet_lengths(bars) {
-                for sizes in SIZES {
+                for (sizes, export) in with_sizes(exports) {
                     try_call(Call {
                         thresholds,
                         sizes,
                         prices: &prices[..count],
                         sheet_len,
-                        look: None,
+                        export,
                     })?;
                 }
             }
@@ -64,25 +80,24 @@ fn short_feeds(
 /// The most bars with a sheet that is one byte too short, and one bar more with enough room.
 fn long_feeds(
     prices: &[f64],
+    exports: [Export; 3],
     try_call: &mut impl FnMut(Call) -> Result<(), Difference>,
 ) -> Result<(), Difference> {
     for (bars, sheet_len) in [
         (MAX_BARS, MAX_BARS * ROW_BYTES - 1),
         (MAX_BARS + 1, (MAX_BARS + 1) * ROW_BYTES),
     ] {
-        for look in [
-            None,
-            Some(Look {
-                recogniser: 18,
-                offset: 0,
-            }),
-        ] {
+        let look = Export::Look(Look {
+            recogniser: 18,
+            offset: 0,
+        });
+        for export in exports.into_iter().chain([look]) {
             try_call(Call {
                 thresholds: &Thresholds::STANDARD,
                 sizes: &[4096],
                 prices: &prices[..bars * BAR_PRICES],
                 sheet_len,
-                look,
+                export,
             })?;
         }
     }
@@ -94,45 +109,97 @@ fn looks(
     prices: &[f64],
     try_call: &mut impl FnMut(Call) -> Result<(), Difference>,
 ) -> Result<(), Difference> {
-    let nan = Thresholds {
-        th8: f64::NAN,
-        ..Thresholds::STANDARD
-    };
-    for thresholds in [&Thresholds::STANDARD, &nan] {
-        for count in [0, 1, 4, 8, 50 * BAR_PRICES, 50 * BAR_PRICES + 2] {
-            for sheet_len in refusals::sheet_lengths(count / BAR_PRICES) {
-                for recogniser in refusals::RECOGNISERS {
-                    for offset in refusals::LOOK_OFFSETS {
-                        try_call(Call {
-                            thresholds,
-                            sizes: &[1],
-                            prices: &prices[..count],
-                            sheet_len,
-                            look: Some(Look { recogniser, offset }),
-                        })?;
-                    }
-                }
+    for feed in few_feeds(prices) {
+        for recogniser in refusals::RECOGNISERS {
+            for offset in refusals::LOOK_OFFSETS {
+                try_call(Call {
+                    export: Export::Look(Look { recogniser, offset }),
+                    ..feed
+                })?;
             }
         }
     }
     Ok(())
 }
 
+/// Tallies of all kinds with feeds that are refused by themselves and feeds that are not.
+fn all_tallies(
+    prices: &[f64],
+    try_call: &mut impl FnMut(Call) -> Result<(), Difference>,
+) -> Result<(), Difference> {
+    let mut tallies = tallies::all();
+    tallies.extend(OTHERS.map(|bars| of_walk(prices, bars)));
+    for tally in &tallies {
+        for feed in few_feeds(prices) {
+            for (sizes, export) in with_sizes([Export::Tally(tally)]) {
+                try_call(Call {
+                    sizes,
+                    export,
+                    ..feed
+                })?;
+            }
+        }
+    }
+    Ok(())
+}
+
+/// A threshold that is refused.
+const NAN: Thresholds = Thresholds {
+    th8: f64::NAN,
+    ..Thresholds::STANDARD
+};
+
+/// Numbers of prices: whole bars and not.
+const FEW_PRICES: [usize; 6] = [0, 1, 4, 8, 50 * BAR_PRICES, 50 * BAR_PRICES + 2];
+
+/// Feeds that are refused by 3, by 4, by 6, by several and by none.
+fn few_feeds(prices: &[f64]) -> Vec<Call<'_>> {
+    let mut feeds = Vec::new();
+    for thresholds in [&Thresholds::STANDARD, &NAN] {
+        for count in FEW_PRICES {
+            for sheet_len in refusals::sheet_lengths(count / BAR_PRICES) {
+                feeds.push(Call {
+                    thresholds,
+                    sizes: &[1],
+                    prices: &prices[..count],
+                    sheet_len,
+                    export: Export::Feed,
+                });
+            }
+        }
+    }
+    feeds
+}
+
+/// Bars of a box that was fed before, some of them as many as it is fed now.
+const OTHERS: [usize; 5] = [1, 2, 50, 64, 100];
+
+/// The tally that these bars of the walk leave.
+fn of_walk(prices: &[f64], bars: usize) -> Vec<u32> {
+    let mut sheet = vec![0; bars * ROW_BYTES];
+    let prices = &prices[..bars * BAR_PRICES];
+    let fed = port::feed_in_parts(&Thresholds::STANDARD, &[], prices, &mut sheet);
+    assert!(fed.is_ok(), "the feed is accepted");
+    port::Tally::of_sheet(&sheet).numbers().to_vec()
+}
+
+fn with_sizes<'a, const N: usize>(
+    exports: [Export<'a>; N],
+) -> impl Iterator<Item = (&'static [u32], Export<'a>)> {
+    let with = move |sizes| exports.into_iter().map(move |export| (sizes, export));
+    SIZES.into_iter().flat_map(with)
+}
+
 impl Call<'_> {
     fn check(&self) -> Result<(), String> {
         let mut expected = Sheet::new(self.sheet_len);
-        let made = port::feed_in_parts(self.thresholds, self.sizes, self.prices, expected.bytes());
-        let wanted = match (&made, self.look) {
-            (Ok(_), None) => 0,
-            (Err(refusal), None) => *refusal,
-            (Err(refusal), Some(_)) => REFUSED + refusal,
-            (Ok(plain), Some(look)) => match plain.look(look.recogniser, look.offset) {
-                Ok(pair) => pair.number(),
-                Err(refusal) => REFUSED + refusal,
-            },
-        };
+        let mut tally = port::Tally::of_numbers(self.counts());
+        let (t, sizes, prices) = (self.thresholds, self.sizes, self.prices);
+        let made = port::tally_in_parts(t, sizes, prices, expected.bytes(), &mut tally);
+        let wanted = self.answer(&made);
         let mut sheet = Sheet::new(self.sheet_len);
-        let got = self.make(sheet.bytes());
+        let mut counts = Counts::new(self.counts());
+        let got = self.make(sheet.bytes(), counts.numbers());
         if got != wanted {
             return Err(format!(
                 "{} instead of {}",
@@ -145,36 +212,56 @@ impl Call<'_> {
         } else {
             0
         };
-        sheet.check(&expected.bytes()[..bars * ROW_BYTES])
+        sheet.check(&expected.bytes()[..bars * ROW_BYTES])?;
+        counts.check(&tally)
     }
 
-    fn make(&self, sheet: &mut [u8]) -> u32 {
-        match self.look {
-            None => feeds_export::feed(self.thresholds, self.sizes, self.prices, sheet),
-            Some(Look { recogniser, offset }) => feeds_export::look(
-                recogniser,
-                offset,
-                self.thresholds,
-                self.sizes,
-                self.prices,
-                sheet,
-            ),
+    /// The counts that are lent: none to an export without a tally.
+    fn counts(&self) -> &[u32] {
+        match self.export {
+            Export::Tally(counts) => counts,
+            Export::Feed | Export::Look(_) => &[],
+        }
+    }
+
+    /// What the export must say of a box that was fed or refused.
+    fn answer(&self, made: &Result<PlainBox, u32>) -> u32 {
+        match (made, self.export) {
+            (Err(refusal), Export::Look(_)) => REFUSED + refusal,
+            (Err(refusal), _) => *refusal,
+            (Ok(plain), Export::Look(look)) => match plain.look(look.recogniser, look.offset) {
+                Ok(pair) => pair.number(),
+                Err(refusal) => REFUSED + refusal,
+            },
+            (Ok(_), _) => 0,
+        }
+    }
+
+    fn make(&self, sheet: &mut [u8], counts: &mut [u32]) -> u32 {
+        let (t, sizes, prices) = (self.thresholds, self.sizes, self.prices);
+        match self.export {
+            Export::Feed => feeds_export::feed(t, sizes, prices, sheet),
+            Export::Look(Look { recogniser, offset }) => {
+                feeds_export::look(recogniser, offset, t, sizes, prices, sheet)
+            }
+            Export::Tally(_) => tally_export::tally(t, sizes, prices, sheet, counts),
         }
     }
 
     /// An answer of the call in words.
     fn name(&self, answer: u32) -> String {
-        match self.look {
-            None if answer == 0 => "no refusal".to_string(),
-            None => format!("refusal {answer}"),
-            Some(_) => format!("{answer} ({})", Answer(answer)),
+        match self.export {
+            Export::Look(_) => format!("{answer} ({})", Answer(answer)),
+            _ if answer == 0 => "no refusal".to_string(),
+            _ => format!("refusal {answer}"),
         }
     }
 
     fn report(&self, wrong: &str) -> String {
-        let call = match self.look {
-            None => "jcc_feed".to_string(),
-            Some(look) => format!("jcc_look, {look:?}"),
+        let call = match self.export {
+            Export::Feed => "jcc_feed".to_string(),
+            Export::Look(look) => format!("jcc_look, {look:?}"),
+            Export::Tally(counts) => format!("jcc_tally, {}", text::tally(counts)),
         };
         format!(
             "{call}: {wrong}\n{} prices in {}, a sheet of {} bytes\n{}",

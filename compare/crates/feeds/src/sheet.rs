@@ -1,59 +1,30 @@
-//! The sheet that an export is lent, between guard bytes that it must not reach.
+//! The sheet that an export is lent.
 
+use crate::lent::Lent;
 use crate::text::pair;
 use jcc_types::ROW_BYTES;
 
-/// Guard bytes before and after a sheet; an odd number, so that rows are not aligned.
-const GUARD: usize = 41;
-
-pub struct Sheet {
-    store: Vec<u8>,
-}
-
-/// What the store holds before a call: never a label's code.
-fn filler(place: usize) -> u8 {
-    200 + (place % 50) as u8
-}
+pub struct Sheet(Lent<u8>);
 
 impl Sheet {
     pub fn new(len: usize) -> Sheet {
-        Sheet {
-            store: (0..len + 2 * GUARD).map(filler).collect(),
-        }
+        Sheet(Lent::new(len))
     }
 
     pub fn bytes(&mut self) -> &mut [u8] {
-        let end = self.store.len() - GUARD;
-        &mut self.store[GUARD..end]
+        self.0.elements()
     }
 
     /// An error unless the sheet begins with these rows and nothing else was written.
     pub fn check(&self, rows: &[u8]) -> Result<(), String> {
-        let (before, rest) = self.store.split_at(GUARD);
-        let (written, after) = rest.split_at(rows.len());
-        if let Some(at) = first_difference(written, rows) {
-            return Err(wrong_row(written, rows, at / ROW_BYTES, at % ROW_BYTES / 2));
-        }
-        let start = GUARD + rows.len();
-        let changed = |bytes: &[u8], from: usize| {
-            let kept = |(i, byte): (usize, &u8)| *byte == filler(from + i);
-            bytes.iter().enumerate().position(|b| !kept(b))
+        let wrong = |at: usize, written: &[u8]| {
+            let (row, recogniser) = (at / ROW_BYTES, at % ROW_BYTES / 2);
+            wrong_row(written, rows, row, recogniser)
         };
-        if let Some(at) = changed(after, start) {
-            return Err(format!("byte {at} past the rows was written"));
-        }
-        if changed(before, 0).is_some() {
-            return Err("a byte before the sheet was written".to_string());
-        }
-        Ok(())
+        self.0
+            .check(rows, wrong)
+            .map_err(|wrong| format!("sheet, {wrong}"))
     }
-}
-
-fn first_difference(a: &[u8], b: &[u8]) -> Option<usize> {
-    if a == b {
-        return None;
-    }
-    a.iter().zip(b).position(|(x, y)| x != y)
 }
 
 /// Rows are counted from 1, as bars are.

@@ -12,6 +12,8 @@ pub struct Tally {
     pub judged: u64,
     /// Rows of the export compared with them: each as often as its history was cut.
     pub rows: u64,
+    /// Tallies that were compared: one of each cut.
+    pub tallies: u64,
     /// Rows of histories handed over with other NaN patterns.
     pub patterns: u64,
     pub looks: u64,
@@ -31,6 +33,7 @@ impl Tally {
             histories: [[0; 2]; PIECES.len()],
             judged: 0,
             rows: 0,
+            tallies: 0,
             patterns: 0,
             looks: 0,
             looked: [0; 2],
@@ -60,6 +63,7 @@ impl Tally {
         for (sum, n) in [
             (&mut self.judged, more.judged),
             (&mut self.rows, more.rows),
+            (&mut self.tallies, more.tallies),
             (&mut self.patterns, more.patterns),
             (&mut self.looks, more.looks),
             (&mut self.refusals, more.refusals),

@@ -30,6 +30,15 @@ pub fn sizes(sizes: &[u32]) -> String {
     text + "then what is left"
 }
 
+/// How many counts are lent, and those that are not zero, by their places.
+pub fn tally(counts: &[u32]) -> String {
+    let mut text = format!("{} counts", counts.len());
+    for (at, count) in counts.iter().enumerate().filter(|(_, n)| **n != 0) {
+        write!(text, ", {at}: {count}").expect("text grows");
+    }
+    text
+}
+
 /// The thresholds in 01's order; the bits of the two that are no whole numbers.
 pub fn thresholds(t: &Thresholds) -> String {
     let [th0, th8] = t.reals().map(f64::to_bits);

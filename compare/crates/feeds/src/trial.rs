@@ -3,7 +3,7 @@
 use crate::text;
 use inputs::Case;
 use inputs::looks::Look;
-use jcc_types::{BAR_PRICES, Bar, ROW_BYTES, Thresholds};
+use jcc_types::{BAR_PRICES, Bar, ROW_BYTES, TALLY_COUNTS, Thresholds};
 use std::fmt;
 
 #[derive(Clone)]
@@ -14,6 +14,8 @@ pub struct Trial {
     pub sizes: Vec<u32>,
     /// Bytes of the sheet past the rows.
     pub spare: usize,
+    /// How many counts of a tally are lent.
+    pub counts: usize,
     /// The bits that the exports are handed in the place of each NaN. The judges keep theirs.
     pub nan: Option<u64>,
     pub look: Option<Look>,
@@ -27,6 +29,7 @@ impl Trial {
             thresholds: case.thresholds,
             sizes: Vec::new(),
             spare: 0,
+            counts: TALLY_COUNTS,
             nan: None,
             look: None,
         }
@@ -53,7 +56,7 @@ impl Trial {
     }
 
     /// Simpler trials, those with much less first: fewer newest or oldest bars, one bar fewer,
-    /// fewer feeds, no spare bytes, the standard set.
+    /// fewer feeds, no spare bytes, all counts and no more, the standard set.
     pub fn simpler(&self) -> Vec<Trial> {
         let count = self.bars.len();
         let halves = |n: usize| (0..usize::BITS).map(move |i| n >> i).take_while(|n| *n > 0);
@@ -71,6 +74,9 @@ impl Trial {
         }
         if self.spare > 0 {
             trials.push(self.changed(|t| t.spare = 0));
+        }
+        if self.counts != TALLY_COUNTS {
+            trials.push(self.changed(|t| t.counts = TALLY_COUNTS));
         }
         if self.thresholds.to_bytes() != Thresholds::STANDARD.to_bytes() {
             trials.push(self.changed(|t| t.thresholds = Thresholds::STANDARD));
@@ -119,7 +125,8 @@ impl fmt::Display for Trial {
         if let Some(bits) = self.nan {
             writeln!(f, "each NaN is handed over as {bits:016x}")?;
         }
-        writeln!(f, "a sheet of {} bytes", self.sheet_len())?;
+        let (bytes, counts) = (self.sheet_len(), self.counts);
+        writeln!(f, "a sheet of {bytes} bytes, a tally of {counts} counts")?;
         writeln!(f, "{}", text::thresholds(&self.thresholds))?;
         f.write_str(&text::bars(1, &self.bars))
     }

@@ -17,6 +17,7 @@ pub mod planted;
 pub mod refusals;
 pub mod report;
 pub mod rng;
+pub mod tallies;
 pub mod walk;
 
 use jcc_types::{Bar, Thresholds};

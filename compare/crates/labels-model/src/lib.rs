@@ -1,24 +1,24 @@
-//! The labels program in plain Rust, written from documents 01 and 02 alone: lines of prices in,
-//! labels out. The labels come from the plain port's box or from the repository's own functions.
+//! The programs labels and tally in plain Rust, written from documents 01 and 02 alone: lines of
+//! prices in, labels or their counts out. The labels come from the plain port's box or from the
+//! repository's own functions.
 
 pub mod judge;
 pub mod line;
 pub mod price;
+pub mod printer;
 pub mod refusal;
 
-use jcc_types::LABELS;
-use judge::{Judge, Row};
+use judge::Judge;
 use line::{Lines, Next};
+use printer::Printer;
 use refusal::Refusal;
-use std::io::{self, BufRead, Write};
+use std::io::{self, BufRead};
 
 /// What a run has done.
 #[derive(Clone, Copy, Debug, Default, PartialEq, Eq)]
 pub struct Done {
     /// The lines whose bars were labelled.
     pub bars: u64,
-    /// The labels printed.
-    pub rows: u64,
     /// The refusal that ended the run; without one the input ended it.
     pub refusal: Option<Refusal>,
 }
@@ -27,8 +27,8 @@ pub struct Done {
 /// cannot be read further is an error, as is an output that cannot be written.
 pub fn run(
     input: impl BufRead,
-    mut output: impl Write,
     judge: &mut impl Judge,
+    printer: &mut impl Printer,
 ) -> io::Result<Done> {
     let mut lines = Lines::new(input);
     let mut done = Done::default();
@@ -38,53 +38,56 @@ pub fn run(
             Next::TooLong => Err(Refusal::SHAPE),
             Next::End => break,
         };
-        let ordinal = done.bars + 1;
         match bar.and_then(|bar| judge.next(&bar).map_err(Refusal::of_feed)) {
-            Ok(row) => done.rows += print(&mut output, ordinal, &row)?,
+            Ok(row) => printer.row(done.bars + 1, &row)?,
             Err(refusal) => {
-                writeln!(output, "refused,{ordinal},{refusal}")?;
                 done.refusal = Some(refusal);
                 break;
             }
         }
-        done.bars = ordinal;
+        done.bars += 1;
     }
-    output.flush()?;
+    printer.end(&done)?;
     Ok(done)
-}
-
-/// Prints a line for each recogniser whose v1 is not 其他 and gives their number.
-fn print(output: &mut impl Write, ordinal: u64, row: &Row) -> io::Result<u64> {
-    let mut printed = 0;
-    for (recogniser, [v1, v2]) in row.as_chunks::<2>().0.iter().enumerate() {
-        if *v1 != 0 {
-            let [v1, v2] = [v1, v2].map(|code| LABELS[usize::from(*code)]);
-            writeln!(output, "{ordinal},{recogniser},{v1},{v2}")?;
-            printed += 1;
-        }
-    }
-    Ok(printed)
 }
 
 #[cfg(test)]
 mod tests {
     use super::*;
     use judge::{Port, Repository};
+    use printer::{Counts, Labels};
+
+    /// What the labels and the tally program print.
+    fn printed_by(input: &str, judge: &mut impl Judge) -> [String; 2] {
+        let mut printer = (Labels::new(Vec::new()), Counts::new(Vec::new()));
+        run(input.as_bytes(), judge, &mut printer).expect("bytes can be read and written");
+        let (labels, counts) = printer;
+        [labels.output, counts.output]
+            .map(|output| String::from_utf8(output).expect("labels are text"))
+    }
+
+    fn both(input: &str) -> [String; 2] {
+        let printed = printed_by(input, &mut Port::new());
+        assert_eq!(printed, printed_by(input, &mut Repository::new()));
+        printed
+    }
 
     fn printed(input: &str) -> String {
-        let outputs = [true, false].map(|is_port| {
-            let mut output = Vec::new();
-            let input = input.as_bytes();
-            let done = if is_port {
-                run(input, &mut output, &mut Port::new())
-            } else {
-                run(input, &mut output, &mut Repository::new())
-            };
-            done.expect("bytes can be read and written");
-            String::from_utf8(output).expect("labels are text")
-        });
-        assert_eq!(outputs[0], outputs[1]);
-        outputs[0].clone()
+        let [labels, tally] = both(input);
+        if let Some(at) = labels.find("refused") {
+            assert_eq!(tally, labels[at..]);
+        }
+        labels
+    }
+
+    #[test]
+    fn counts() {
+        let [_, tally] = both("5,6,7,4\n5,6,8,3\n");
+        let others = |k: usize| format!("{k},其他,2\n");
+        let mut expected = others(0) + "1,其他,1\n1,满足,1\n";
+        (2..18).for_each(|k| expected += &others(k));
+        assert_eq!(tally, expected);
+        assert_eq!(both(""), ["", ""]);
     }
 
     #[test]

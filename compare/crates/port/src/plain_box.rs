@@ -1,7 +1,8 @@
 //! 01's box, plainly: every bar that is fed is labelled by all recognisers over the kept bars.
 
 use crate::label;
-use crate::refusals::{feed_refusal, look_refusal, within_limits};
+use crate::refusals::{feed_refusal, look_refusal, tallied_refusal, within_limits};
+use crate::tally::Tally;
 use jcc_types::{BAR_PRICES, Bar, KEPT, Pair, ROW_BYTES, Thresholds};
 
 pub struct PlainBox {
@@ -96,4 +97,20 @@ pub fn feed_in_parts(
     }
     made.feed(prices, sheet)?;
     Ok(made)
+}
+
+/// The same feeds with a tally, which must be that of a fresh box. A refusal leaves it as it is.
+pub fn tally_in_parts(
+    t: &Thresholds,
+    sizes: &[u32],
+    prices: &[f64],
+    sheet: &mut [u8],
+    tally: &mut Tally,
+) -> Result<PlainBox, u32> {
+    if let Some(refusal) = tallied_refusal(t, 0, prices.len(), sheet.len(), tally) {
+        return Err(refusal);
+    }
+    let fed = feed_in_parts(t, sizes, prices, sheet)?;
+    tally.count_rows(&sheet[..prices.len() / BAR_PRICES * ROW_BYTES]);
+    Ok(fed)
 }

@@ -24,6 +24,9 @@ pub const BAR_PRICES: usize = 4;
 /// The bytes of one bar's row in a sheet: v1 and v2 of each recogniser.
 pub const ROW_BYTES: usize = 2 * RECOGNISERS;
 
+/// The counts of a tally: one for each recogniser and v1, those of recogniser k from 38 × k on.
+pub const TALLY_COUNTS: usize = RECOGNISERS * LABELS.len();
+
 /// The newest bars that a box keeps.
 pub const KEPT: usize = 64;
 

@@ -1,9 +1,11 @@
-//! Runs the program on an input and compares what it prints with what the model prints.
+//! Runs the programs on an input and compares what they print with what the model prints.
 
-use crate::process::{self, Ended, Way};
+use crate::process::{self, Way};
+use crate::programs::{
+    LABELS, NAMES, Outputs, Printed, Programs, TALLY, Wrong, first_difference, first_wrong,
+};
 use crate::tally::Tally;
-use labels_model::judge::{Judge, Port, Repository};
-use labels_model::{Done, run};
+use labels_model::judge::{Port, Repository};
 use std::path::Path;
 use std::{fs, io};
 
@@ -61,64 +63,74 @@ impl Difference {
 
 /// The judge of a thread.
 pub struct Check<'a> {
-    pub program: &'a Path,
+    pub programs: &'a Programs,
     pub tally: Tally,
 }
 
 impl<'a> Check<'a> {
-    pub fn new(program: &'a Path) -> Check<'a> {
+    pub fn new(programs: &'a Programs) -> Check<'a> {
         Check {
-            program,
+            programs,
             tally: Tally::default(),
         }
     }
 
-    /// The program must print what the model prints, in every one of the ways.
+    /// The programs must print what the model prints, in every one of the ways.
     pub fn input(&mut self, input: &[u8], ways: &[Way]) -> Result<(), Difference> {
-        let (expected, done) = printed(input, &mut Port::new());
+        let expected = Printed::of(input, &mut Port::new());
         if input.len() <= MOST_JUDGED {
-            let mut repository = Repository::new();
-            let (judged, _) = printed(input, &mut repository);
-            if judged != expected {
-                let place = first_difference(&judged, &expected);
-                let wrong = format!("The model's labels are not the repository's. {place}");
-                return Err(Difference::with(wrong, input, &judged, &expected));
-            }
-            self.tally.judged += 1;
-            self.tally.corners += repository.corners;
+            self.judge(input, &expected)?;
         }
         for way in ways {
-            let ended = self.run(input, way).map_err(|wrong| {
-                let wrong = format!("{wrong} (input: {way:?})");
-                Difference::with(wrong, input, &expected, &[])
+            let printed = self.run(input, way).map_err(|(program, wrong)| {
+                let wrong = format!("{}: {wrong} (input: {way:?})", NAMES[program]);
+                Difference::with(wrong, input, &expected.outputs[program], &[])
             })?;
-            if ended.stdout != expected {
-                return Err(self.smallest(input, &ended.stdout, way));
+            if let Some(wrong) = first_wrong(&expected, &printed) {
+                return Err(self.smallest(input, wrong, way));
             }
         }
-        self.tally.count(input, &done);
+        self.tally.count(input, &expected);
         Ok(())
     }
 
-    /// A run that ends with an exit status and says nothing on standard error.
-    fn run(&mut self, input: &[u8], way: &Way) -> Result<Ended, String> {
-        let ended = process::run(self.program, input, way)?;
-        self.tally.runs += 1;
-        self.tally.count_status(ended.status.to_string());
-        if ended.status.code().is_none() {
-            return Err(format!("The program was ended by {}.", ended.status));
+    /// The model's labels, and their counts, must be the repository's.
+    fn judge(&mut self, input: &[u8], expected: &Printed) -> Result<(), Difference> {
+        let mut repository = Repository::new();
+        let judged = Printed::of(input, &mut repository).outputs;
+        for program in [LABELS, TALLY] {
+            let [judged, expected] = [&judged[program], &expected.outputs[program]];
+            if judged != expected {
+                let place = first_difference(judged, expected);
+                let name = NAMES[program];
+                let wrong = format!("{name}: by the repository the model is wrong. {place}");
+                return Err(Difference::with(wrong, input, judged, expected));
+            }
         }
-        if !ended.stderr.is_empty() {
-            let said = String::from_utf8_lossy(&ended.stderr).into_owned();
-            return Err(format!("The program wrote on standard error: {said}"));
-        }
-        Ok(ended)
+        self.tally.judged += 1;
+        self.tally.corners += repository.corners;
+        Ok(())
     }
 
-    /// Leaves lines out as long as the program still differs. Long inputs are left as they are.
-    fn smallest(&mut self, input: &[u8], got: &[u8], way: &Way) -> Difference {
+    /// What the programs print. An error is one that does not end by itself, with status 0 and
+    /// nothing on standard error.
+    fn run(&mut self, input: &[u8], way: &Way) -> Result<Outputs, (usize, String)> {
+        let mut outputs = Outputs::default();
+        for (program, output) in outputs.iter_mut().enumerate() {
+            let ended = process::run(&self.programs[program], input, way);
+            *output = ended
+                .and_then(|ended| {
+                    self.tally.count_run(&ended);
+                    ended.quiet()
+                })
+                .map_err(|wrong| (program, wrong))?;
+        }
+        Ok(outputs)
+    }
+
+    /// Leaves lines out as long as a program still differs. Long inputs are left as they are.
+    fn smallest(&mut self, input: &[u8], mut wrong: Wrong, way: &Way) -> Difference {
         let mut lines: Vec<&[u8]> = input.split_inclusive(|byte| *byte == b'\n').collect();
-        let mut got = got.to_vec();
         let mut runs = if input.len() <= MOST_JUDGED {
             MOST_CUTS
         } else {
@@ -133,48 +145,27 @@ impl<'a> Check<'a> {
                 runs -= 1;
                 if let Some(other) = self.differs(&fewer.concat(), way) {
                     lines = fewer;
-                    got = other;
+                    wrong = other;
                 } else {
                     start = end;
                 }
             }
             size /= 2;
         }
-        let input = lines.concat();
-        let (expected, _) = printed(&input, &mut Port::new());
-        let place = first_difference(&expected, &got);
-        Difference::with(format!("{place} (input: {way:?})"), &input, &expected, &got)
+        let Wrong {
+            who,
+            expected,
+            printed,
+        } = wrong;
+        let place = first_difference(&expected, &printed);
+        let text = format!("{who}: {place} (input: {way:?})");
+        Difference::with(text, &lines.concat(), &expected, &printed)
     }
 
-    /// What the program prints, if it is not what the model prints.
-    fn differs(&mut self, input: &[u8], way: &Way) -> Option<Vec<u8>> {
-        let (expected, _) = printed(input, &mut Port::new());
-        let ended = self.run(input, way).ok()?;
-        (ended.stdout != expected).then_some(ended.stdout)
-    }
-}
-
-/// What the model prints.
-pub fn printed(input: &[u8], judge: &mut impl Judge) -> (Vec<u8>, Done) {
-    let mut output = Vec::new();
-    let done = run(input, &mut output, judge).expect("bytes can be read and written");
-    (output, done)
-}
-
-/// The first line in which two outputs differ.
-fn first_difference(expected: &[u8], got: &[u8]) -> String {
-    let mut expected = expected.split_inclusive(|byte| *byte == b'\n');
-    let mut got = got.split_inclusive(|byte| *byte == b'\n');
-    let mut number = 0;
-    loop {
-        number += 1;
-        match (expected.next(), got.next()) {
-            (None, None) => return "The outputs are equal.".to_string(),
-            (a, b) if a == b => {}
-            (a, b) => {
-                let [a, b] = [a, b].map(|line| line.map(String::from_utf8_lossy));
-                return format!("Output line {number}: {b:?} instead of {a:?}");
-            }
-        }
+    /// What is wrong with what the programs print, if it is not what the model prints.
+    fn differs(&mut self, input: &[u8], way: &Way) -> Option<Wrong> {
+        let expected = Printed::of(input, &mut Port::new());
+        let printed = self.run(input, way).ok()?;
+        first_wrong(&expected, &printed)
     }
 }

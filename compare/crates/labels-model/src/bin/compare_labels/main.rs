@@ -1,12 +1,15 @@
-//! Compares the labels program with its model, byte for byte, on good and bad inputs. Small inputs
-//! are judged by the repository's own functions too. Stops at the first difference.
+//! Compares the programs labels and tally with their model, byte for byte, on good and bad inputs, and
+//! with each other. Small inputs are judged by the repository's own functions too. Stops at the first
+//! difference.
 
+mod agree;
 mod bad;
 mod check;
 mod endings;
 mod good;
 mod options;
 mod process;
+mod programs;
 mod tally;
 mod work;
 
@@ -31,7 +34,7 @@ fn compare(options: &Options) -> Result<(), String> {
     let start = Instant::now();
     let (checks, difference) = parts::run(
         &work::all(options),
-        || Check::new(&options.program),
+        || Check::new(&options.programs),
         |part, check| part.run(options.seed, check),
     );
     if let Some(difference) = difference {
@@ -43,6 +46,6 @@ fn compare(options: &Options) -> Result<(), String> {
     tally.print();
     match tally.unseen().as_slice() {
         [] => Ok(()),
-        kinds => Err(format!("never refused by {}", kinds.join(", by "))),
+        kinds => Err(format!("never seen: {}", kinds.join("; "))),
     }
 }

@@ -1,13 +1,13 @@
 //! The command line.
 
+use crate::programs::Programs;
 use std::path::PathBuf;
 
-const USAGE: &str = "compare_labels PROGRAM FOLDER [--seed N] [--inputs N]";
+const USAGE: &str = "compare_labels LABELS TALLY FOLDER [--seed N] [--inputs N]";
 
 pub struct Options {
-    /// The program that is tested.
-    pub program: PathBuf,
-    /// Where an input is saved at which it differs.
+    pub programs: Programs,
+    /// Where an input is saved at which one of them differs.
     pub folder: PathBuf,
     pub seed: u64,
     /// How many random inputs there are, beside those that are always the same.
@@ -17,12 +17,13 @@ pub struct Options {
 impl Options {
     pub fn from_arguments() -> Result<Options, String> {
         let mut arguments = std::env::args().skip(1);
-        let program = arguments.next().ok_or(USAGE)?.into();
-        let folder = arguments.next().ok_or(USAGE)?.into();
+        let mut path = || arguments.next().map(PathBuf::from).ok_or(USAGE);
+        let programs = [path()?, path()?];
+        let folder = path()?;
         let known = [("--seed", 1), ("--inputs", 4000)];
         let [seed, inputs] = parts::numbers(arguments, known, USAGE)?;
         Ok(Options {
-            program,
+            programs,
             folder,
             seed,
             inputs,

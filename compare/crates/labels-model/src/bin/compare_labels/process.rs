@@ -1,9 +1,10 @@
-//! Runs the program, with its input handed over in several ways and its output taken or not.
+//! Runs a program, with its input handed over in several ways and its output taken or not.
 
 use std::ffi::{OsStr, c_int, c_ulong};
 use std::fs::{self, File};
 use std::io::{self, Read, Write};
-use std::os::fd::AsRawFd;
+use std::os::fd::{AsRawFd, OwnedFd};
+use std::os::unix::net::UnixStream;
 use std::path::{Path, PathBuf};
 use std::process::{Child, ChildStdin, Command, ExitStatus, Stdio};
 use std::sync::atomic::{AtomicU64, Ordering};
@@ -12,7 +13,7 @@ use std::thread;
 use std::time::{Duration, Instant};
 
 /// A run that takes longer has not ended.
-const LIMIT: Duration = Duration::from_secs(120);
+pub const LIMIT: Duration = Duration::from_secs(120);
 
 /// How long a chunk may wait for the program to take it.
 const PATIENCE: Duration = Duration::from_millis(20);
@@ -27,6 +28,8 @@ pub enum Way {
     /// Through a pipe in chunks of these sizes, again and again; the next is written when the last
     /// was taken, so that the program's reads are as short.
     Chunks(Vec<usize>),
+    /// Through a stream that cannot be read further after its last byte: no input of many bytes.
+    Broken,
 }
 
 /// What a run left.
@@ -34,6 +37,25 @@ pub struct Ended {
     pub stdout: Vec<u8>,
     pub stderr: Vec<u8>,
     pub status: ExitStatus,
+}
+
+impl Ended {
+    /// The output of a run that ended by itself, with status 0 and nothing on standard error.
+    pub fn quiet(self) -> Result<Vec<u8>, String> {
+        if self.status.code() != Some(0) {
+            return Err(format!("the program ended with {}", self.status));
+        }
+        self.silent()
+    }
+
+    /// The output of a run with nothing on standard error.
+    pub fn silent(self) -> Result<Vec<u8>, String> {
+        if self.stderr.is_empty() {
+            return Ok(self.stdout);
+        }
+        let said = String::from_utf8_lossy(&self.stderr);
+        Err(format!("the program wrote on standard error: {said}"))
+    }
 }
 
 /// Runs a program to its end. An error is a run that cannot be started or does not end.
@@ -57,6 +79,7 @@ pub fn run_command(
     };
     command.stdin(match &file {
         Some(file) => Stdio::from(File::open(&file.path).map_err(|e| e.to_string())?),
+        None if *way == Way::Broken => broken(input).map_err(|e| format!("a stream: {e}"))?,
         None => Stdio::piped(),
     });
     command.stderr(Stdio::piped());
@@ -148,6 +171,15 @@ fn hand_over(mut stdin: ChildStdin, mut input: &[u8], way: &Way) {
             thread::yield_now();
         }
     }
+}
+
+/// A stream with an input that fails behind it: its other end was closed with a byte unread, which
+/// is no end of input.
+fn broken(input: &[u8]) -> io::Result<Stdio> {
+    let (mut ours, mut theirs) = UnixStream::pair()?;
+    theirs.write_all(b"unread")?;
+    ours.write_all(input)?;
+    Ok(Stdio::from(OwnedFd::from(theirs)))
 }
 
 /// The bytes that were written to a pipe and not yet read.

@@ -1,9 +1,12 @@
 //! What was compared.
 
-use labels_model::Done;
+use crate::process::Ended;
+use crate::programs::Printed;
+use inputs::pairs::possible;
+use jcc_types::{LABELS, RECOGNISERS};
 use labels_model::line::MOST;
 use labels_model::refusal::Refusal;
-use std::collections::BTreeMap;
+use std::collections::{BTreeMap, BTreeSet};
 
 /// Why a line was refused, by what it is.
 const KINDS: [&str; 10] = [
@@ -22,11 +25,14 @@ const KINDS: [&str; 10] = [
 #[derive(Default)]
 pub struct Tally {
     pub inputs: u64,
-    /// Runs of the program; some inputs are handed over in two ways.
-    pub runs: u64,
+    /// Runs of the programs; some inputs are handed over in two ways.
+    runs: u64,
     lines: u64,
     bytes: u64,
     rows: u64,
+    /// Lines of tallies, and the cells that they were for: recogniser and code.
+    counts: u64,
+    cells: BTreeSet<(usize, usize)>,
     refusals: [u64; KINDS.len()],
     /// Inputs that the repository judged, and their pairs in 01's corners.
     pub judged: u64,
@@ -36,19 +42,36 @@ pub struct Tally {
     /// Runs that stopped at a refused line while the input stayed open, and those that did not.
     open: [u64; 2],
     /// How many runs ended with each exit status.
-    pub statuses: BTreeMap<String, u64>,
+    statuses: BTreeMap<String, u64>,
 }
 
 impl Tally {
-    pub fn count(&mut self, input: &[u8], done: &Done) {
+    pub fn count(&mut self, input: &[u8], printed: &Printed) {
+        let done = printed
+            .done
+            .as_ref()
+            .expect("bytes can be read and written");
         self.inputs += 1;
         self.bytes += input.len() as u64;
-        self.rows += done.rows;
+        self.rows += printed.rows;
         self.lines += done.bars;
-        if let Some(refusal) = done.refusal {
-            self.lines += 1;
-            self.refusals[kind(input, done.bars as usize, refusal)] += 1;
+        match done.refusal {
+            Some(refusal) => {
+                self.lines += 1;
+                self.refusals[kind(input, done.bars as usize, refusal)] += 1;
+            }
+            None => {
+                for (recogniser, code, _) in printed.tally.cells() {
+                    self.counts += 1;
+                    self.cells.insert((recogniser, code));
+                }
+            }
         }
+    }
+
+    pub fn count_run(&mut self, ended: &Ended) {
+        self.runs += 1;
+        self.count_status(ended.status.to_string());
     }
 
     pub fn count_status(&mut self, status: String) {
@@ -66,6 +89,7 @@ impl Tally {
             (&mut self.lines, more.lines),
             (&mut self.bytes, more.bytes),
             (&mut self.rows, more.rows),
+            (&mut self.counts, more.counts),
             (&mut self.judged, more.judged),
             (&mut self.corners, more.corners),
             (&mut self.endings, more.endings),
@@ -76,6 +100,7 @@ impl Tally {
         for (sum, n) in sums.zip(more.refusals.into_iter().chain(more.open)) {
             *sum += n;
         }
+        self.cells.extend(&more.cells);
         for (status, n) in &more.statuses {
             *self.statuses.entry(status.clone()).or_default() += n;
         }
@@ -94,18 +119,22 @@ impl Tally {
         for (kind, n) in KINDS.iter().zip(self.refusals) {
             println!("refusal {kind}: {n} inputs");
         }
+        println!("kinds of counts: {}", self.cells.len());
         println!(
-            "inputs={} lines={} bytes={} rows={} differences=0",
-            self.inputs, self.lines, self.bytes, self.rows
+            "inputs={} lines={} bytes={} rows={} counts={} differences=0",
+            self.inputs, self.lines, self.bytes, self.rows, self.counts
         );
     }
 
-    /// The kinds of refused lines that no input had.
-    pub fn unseen(&self) -> Vec<&'static str> {
-        let kinds = KINDS.iter().zip(self.refusals);
+    /// The kinds of refused lines that no input had, and the counts that no tally had.
+    pub fn unseen(&self) -> Vec<String> {
+        let kinds = KINDS.iter().zip(self.refusals).filter(|(_, n)| *n == 0);
+        let kinds = kinds.map(|(kind, _)| format!("refusal {kind}"));
+        let cells = (0..RECOGNISERS).flat_map(|k| possible(k).into_iter().map(move |p| (k, p.0)));
+        let cells: BTreeSet<_> = cells.map(|(k, v1)| (k, v1 as usize)).collect();
+        let counts = cells.difference(&self.cells);
         kinds
-            .filter(|(_, n)| *n == 0)
-            .map(|(kind, _)| *kind)
+            .chain(counts.map(|(k, code)| format!("count {k},{}", LABELS[*code])))
             .collect()
     }
 }

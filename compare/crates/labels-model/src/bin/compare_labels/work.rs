@@ -23,6 +23,8 @@ pub enum Work {
     BadLines,
     Lengths,
     Cuts,
+    /// Counts and ordinals to which a digit is added.
+    Digits,
     /// A good line with a byte changed or put in at a place.
     Bytes(usize),
     Random {
@@ -48,6 +50,7 @@ pub fn all(options: &Options) -> Vec<Work> {
         Work::BadLines,
         Work::Lengths,
         Work::Cuts,
+        Work::Digits,
         Work::Endings,
     ];
     parts.extend((0..=LINE.len()).map(Work::Bytes));
@@ -76,6 +79,7 @@ impl Work {
             Work::BadLines => bad_lines(check),
             Work::Lengths => lengths(check),
             Work::Cuts => cuts(check, &mut rng),
+            Work::Digits => digits(check),
             Work::Bytes(place) => bytes(check, place),
             Work::Random { part, count } => {
                 let mut rng = Rng::stream(seed, RANDOM, part);
@@ -186,6 +190,16 @@ fn cuts(check: &mut Check, rng: &mut Rng) -> Result<(), Difference> {
     input.extend(good::walk(rng, 2));
     for end in 0..=input.len() {
         check.input(&input[..end], &[Way::Pipe])?;
+    }
+    Ok(())
+}
+
+/// So many equal lines as there are at and around powers of ten.
+fn digits(check: &mut Check) -> Result<(), Difference> {
+    for power in [10, 100, 1000, 10_000, 100_000, 1_000_000] {
+        for count in [power - 1, power, power + 1] {
+            check.input(&b"5,6,7,4\n".repeat(count), &[Way::Pipe])?;
+        }
     }
     Ok(())
 }
