@@ -1,7 +1,7 @@
 #!/usr/bin/env python3
-"""Measures two programs that label lines; bench/labels calls it.
+"""Measures the programs that read lines; bench/labels calls it.
 
-    python3 measure_labels.py LABELS MODEL FOLDER
+    python3 measure_labels.py LABELS TALLY MODEL FOLDER
 
 FOLDER has walk.csv and, in many/, the files of many histories.
 """
@@ -19,6 +19,7 @@ from statistics import median
 ROUNDS = 5
 MANY_ROUNDS = 3
 MEMORY_LINES = [1_000, 100_000, 1_000_000]
+MODELS = {"labels": "model in plain Rust", "tally": "model's tally"}
 
 
 def seconds(command, path):
@@ -31,19 +32,27 @@ def seconds(command, path):
 
 def speed(programs, path):
     count = path.read_bytes().count(b"\n")
-    for program in programs.values():
-        seconds([program], path)  # the file and the program are in memory from here on
+    for command in programs.values():
+        seconds(command, path)  # the file and the program are in memory from here on
     rates = {name: [] for name in programs}
     for _ in range(ROUNDS):
-        for name, program in programs.items():
-            rates[name].append(count / seconds([program], path))
+        for name, command in programs.items():
+            rates[name].append(count / seconds(command, path))
     print(f"\nlines a second, {ROUNDS} rounds in turn, output to /dev/null")
-    print(f"{'':24}{'best':>12}{'median':>12}{'ratio of the medians':>24}")
-    base = median(rates["model in plain Rust"])
+    print(f"{'':24}{'best':>12}{'median':>12}{'median to the model':>24}")
     for name, values in rates.items():
         middle = median(values)
-        ratio = f"{middle / base:.2f}"
+        ratio = f"{middle / median(rates[MODELS.get(name, name)]):.2f}"
         print(f"{name:24}{max(values):>12,.0f}{middle:>12,.0f}{ratio:>24}")
+    compare(rates["labels"], rates["tally"])
+
+
+def compare(labels, tally):
+    """Says whether the tally program is as fast as the one that prints the labels."""
+    ratio = median(tally) / median(labels)
+    said = "no slower than" if ratio >= 1 else "slower than"
+    best = max(tally) / max(labels)
+    print(f"tally is {said} labels: {ratio:.2f} times the lines a second, {best:.2f} by the best")
 
 
 def waiting_bytes(pipe):
@@ -55,17 +64,17 @@ def is_asleep(pid):
     return stat[stat.rindex(")") + 2] == "S"
 
 
-def peak(program, lines):
+def peak(command, lines):
     """The peak of the memory in use, in KiB, when a program has taken all lines and waits for more.
 
     It is read from the program's own account: that of its parent would count memory of before.
     """
-    child = subprocess.Popen([program], stdin=subprocess.PIPE, stdout=subprocess.DEVNULL)
+    child = subprocess.Popen(command, stdin=subprocess.PIPE, stdout=subprocess.DEVNULL)
     child.stdin.write(lines)
     child.stdin.flush()
     while waiting_bytes(child.stdin) > 0 or not is_asleep(child.pid):
         if child.poll() is not None:
-            sys.exit(f"{program} has ended before its input")
+            sys.exit(f"{command[0]} has ended before its input")
         time.sleep(0.001)
     status = Path(f"/proc/{child.pid}/status").read_text()
     child.stdin.close()
@@ -77,8 +86,8 @@ def memory(programs, path):
     lines = path.read_bytes().splitlines(keepends=True)
     print("\npeak resident memory in KiB")
     print(f"{'lines':24}" + "".join(f"{count:>12,}" for count in MEMORY_LINES))
-    for name, program in programs.items():
-        peaks = [peak(program, b"".join(lines[:count])) for count in MEMORY_LINES]
+    for name, command in programs.items():
+        peaks = [peak(command, b"".join(lines[:count])) for count in MEMORY_LINES]
         print(f"{name:24}" + "".join(f"{kib:>12,}" for kib in peaks))
 
 
@@ -90,7 +99,7 @@ def many(programs, folder):
     print("  " + line.replace("{jobs}", "JOBS"))
     print(f"{'JOBS':24}{1:>12}{2:>12}")
     printed = set()
-    for name, program in programs.items():
+    for name, [program] in programs.items():
         best = []
         for jobs in [1, 2]:
             command = line.format(jobs=jobs).replace("PROGRAM", f'"{program}"')
@@ -109,13 +118,14 @@ def many(programs, folder):
 
 
 def main():
-    labels, model, folder = sys.argv[1:]
+    labels, tally, model, folder = sys.argv[1:]
     folder = Path(folder)
-    programs = {"labels": labels, "model in plain Rust": model}
+    labellers = {"labels": [labels], MODELS["labels"]: [model]}
+    programs = {**labellers, "tally": [tally], MODELS["tally"]: [model, "--tally"]}
     print(f"{os.cpu_count()} processors, load {os.getloadavg()[0]:.1f}")
     speed(programs, folder / "walk.csv")
     memory(programs, folder / "walk.csv")
-    return 0 if many(programs, folder / "many") else 1
+    return 0 if many(labellers, folder / "many") else 1
 
 
 if __name__ == "__main__":

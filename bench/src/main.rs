@@ -13,6 +13,9 @@ use std::process::ExitCode;
 
 const ROUNDS: usize = 5;
 
+/// What the count of labels should cost less than, as a part of a feed's time.
+const FIFTH: f64 = 0.2;
+
 /// After so many bars the labels of all rows that have as many are compared.
 const MARKS: [usize; 3] = [FEW, CALLS, FEEDS];
 
@@ -72,10 +75,11 @@ fn compare(row: &Row, sheet: &[u8], digests: &mut [Option<u64>]) -> Result<(), S
 
 fn print(rows: &[Row], measured: &Measured) {
     println!("18 recognisers a bar, {ROUNDS} rounds; million bars a second, and the ratio of the");
-    println!("medians to the repository and to the last row of the plain port or box");
+    println!("medians to the repository, to the last row of the plain port or box, and, with a");
+    println!("tally, to the row without");
     println!(
-        "{:32}{:>10}{:>8}{:>8}{:>12}{:>8}",
-        "", "bars", "best", "median", "repository", "port"
+        "{:32}{:>10}{:>8}{:>8}{:>12}{:>8}{:>10}",
+        "", "bars", "best", "median", "repository", "port", "untallied"
     );
     let median = |i: usize| measured.rates[i].median();
     let mut port = None;
@@ -84,18 +88,45 @@ fn print(rows: &[Row], measured: &Measured) {
             port = Some(i);
         }
         let to_port = port.map_or(String::from("-"), |p| ratio(median(i), median(p)));
+        let to_untallied = if row.is_tallied {
+            ratio(median(i), median(i - 1))
+        } else {
+            String::from("-")
+        };
         println!(
-            "{:32}{:>10}{:>8.3}{:>8.3}{:>12}{:>8}",
+            "{:32}{:>10}{:>8.3}{:>8.3}{:>12}{:>8}{:>10}",
             row.name,
             row.bars,
             measured.rates[i].best(),
             median(i),
             ratio(median(i), median(0)),
             to_port,
+            to_untallied,
         );
     }
+    print_cost(rows, measured);
     for (mark, digest) in MARKS.iter().zip(measured.digests) {
         let digest = digest.expect("a row has as many bars");
         println!("digest of the first {mark} bars' labels, the same for all: {digest:016x}");
+    }
+}
+
+/// How much longer the feeds of the first tallied row take than those without a tally.
+fn print_cost(rows: &[Row], measured: &Measured) {
+    let Some(i) = rows.iter().position(|row| row.is_tallied) else {
+        return;
+    };
+    let [without, with] = [&measured.rates[i - 1], &measured.rates[i]];
+    println!("{}: of the time without it the count costs", rows[i].name);
+    for (by, cost) in [
+        ("medians", without.median() / with.median() - 1.0),
+        ("best rounds", without.best() / with.best() - 1.0),
+    ] {
+        let said = if cost < FIFTH {
+            "less than a fifth"
+        } else {
+            "a fifth or more"
+        };
+        println!("  {said} by the {by}: {:.1} %", 100.0 * cost);
     }
 }

@@ -1,9 +1,10 @@
 //! What is measured: a name and a closure that labels the first bars of the walk and writes the
 //! labels into a sheet, 36 bytes a bar.
 
-use jcc_types::{BAR_BYTES, BAR_PRICES, Bar, KEPT, RECOGNISERS, ROW_BYTES};
-use measure::{feed, sizes, thresholds};
+use jcc_types::{BAR_BYTES, BAR_PRICES, Bar, KEPT, RECOGNISERS, ROW_BYTES, TALLY_COUNTS};
+use measure::{accepted, feed, sizes, thresholds};
 use oracle::Oracle;
+use port::Tally;
 
 /// The bars of the rows that label by plain calls: the repository's functions are slow.
 pub const CALLS: usize = 100_000;
@@ -20,6 +21,8 @@ pub struct Row<'a> {
     pub passes: usize,
     /// Whether it is the plain port to which the rows below it are compared.
     pub is_port: bool,
+    /// Whether it is the row above it with a tally.
+    pub is_tallied: bool,
     pub run: Run<'a>,
 }
 
@@ -32,6 +35,7 @@ fn row<'a>(name: &'static str, bars: usize, run: impl FnMut(&mut [u8]) + 'a) -> 
         bars,
         passes: 1,
         is_port: false,
+        is_tallied: false,
         run: Box::new(run),
     }
 }
@@ -43,18 +47,31 @@ fn port_row<'a>(name: &'static str, bars: usize, run: impl FnMut(&mut [u8]) + 'a
     }
 }
 
+fn tally_row<'a>(name: &'static str, bars: usize, run: impl FnMut(&mut [u8]) + 'a) -> Row<'a> {
+    Row {
+        is_tallied: true,
+        ..row(name, bars, run)
+    }
+}
+
 /// The walk in the forms that the rows take it in.
 pub struct Walked {
     bars: Vec<Bar>,
     bytes: Vec<u8>,
     prices: Vec<f64>,
+    /// The tally of its bars, by the plain port.
+    tally: Tally,
 }
 
 impl Walked {
     pub fn new(bars: Vec<Bar>) -> Walked {
+        let prices: Vec<f64> = bars.iter().flat_map(Bar::prices).collect();
+        let mut sheet = vec![0; bars.len() * ROW_BYTES];
+        plain_box(bars.len(), &prices, &mut sheet);
         Walked {
             bytes: bars[..CALLS].iter().flat_map(|b| b.to_bytes()).collect(),
-            prices: bars.iter().flat_map(Bar::prices).collect(),
+            tally: Tally::of_sheet(&sheet),
+            prices,
             bars,
         }
     }
@@ -88,6 +105,7 @@ fn calls(walked: &Walked) -> Vec<Row<'_>> {
 fn feeds(walked: &Walked) -> Vec<Row<'_>> {
     let prices = walked.prices(FEEDS);
     let few = walked.prices(FEW);
+    let tallied = |size, sheet: &mut [u8]| tallied(size, prices, &walked.tally, sheet);
     vec![
         port_row("plain box, feeds of 4,096 bars", FEEDS, |s| {
             plain_box(4096, prices, s);
@@ -95,18 +113,25 @@ fn feeds(walked: &Walked) -> Vec<Row<'_>> {
         row("jcc_feed, feeds of 4,096 bars", FEEDS, |s| {
             fed(4096, prices, s);
         }),
+        tally_row("jcc_tally, feeds of 4,096 bars", FEEDS, move |s| {
+            tallied(4096, s);
+        }),
         Row {
             passes: FEEDS / FEW,
-            ..row("the same for 10,000 bars", FEW, |s| fed(4096, few, s))
+            ..row("jcc_feed, 10,000 of the bars", FEW, |s| fed(4096, few, s))
         },
         port_row("plain box, feeds of 64 bars", FEEDS, |s| {
             plain_box(64, prices, s);
         }),
         row("jcc_feed, feeds of 64 bars", FEEDS, |s| fed(64, prices, s)),
+        tally_row("jcc_tally, feeds of 64 bars", FEEDS, move |s| {
+            tallied(64, s);
+        }),
         port_row("plain box, feeds of 1 bar", FEEDS, |s| {
             plain_box(1, prices, s);
         }),
         row("jcc_feed, feeds of 1 bar", FEEDS, |s| fed(1, prices, s)),
+        tally_row("jcc_tally, feeds of 1 bar", FEEDS, move |s| tallied(1, s)),
     ]
 }
 
@@ -152,9 +177,18 @@ fn exported(bytes: &[u8], most: usize, sheet: &mut [u8]) {
 
 fn plain_box(size: usize, prices: &[f64], sheet: &mut [u8]) {
     let fed = port::feed_in_parts(&thresholds(), &sizes(size, prices), prices, sheet);
-    assert!(fed.is_ok(), "the feeds are accepted");
+    accepted(fed.err().unwrap_or(0));
 }
 
 fn fed(size: usize, prices: &[f64], sheet: &mut [u8]) {
     feed(feeds_export::feed, size, prices, sheet);
+}
+
+/// The counts must be those of the tally.
+fn tallied(size: usize, prices: &[f64], tally: &Tally, sheet: &mut [u8]) {
+    let mut counts = [0; TALLY_COUNTS];
+    let t = thresholds();
+    let sizes = sizes(size, prices);
+    accepted(tally_export::tally(&t, &sizes, prices, sheet, &mut counts));
+    assert_eq!(counts, tally.numbers(), "the counts are the plain port's");
 }

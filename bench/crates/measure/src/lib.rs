@@ -59,7 +59,11 @@ pub type Feed = fn(&Thresholds, &[u32], &[f64], &mut [u8]) -> u32;
 
 /// Feeds a library the prices, so many bars at a time.
 pub fn feed(library: Feed, size: usize, prices: &[f64], sheet: &mut [u8]) {
-    let refusal = library(&thresholds(), &sizes(size, prices), prices, sheet);
+    accepted(library(&thresholds(), &sizes(size, prices), prices, sheet));
+}
+
+/// The feeds of a walk are never refused.
+pub fn accepted(refusal: u32) {
     assert_eq!(refusal, 0, "the feeds are accepted");
 }
 
