@@ -1,11 +1,12 @@
 #!/usr/bin/env python3
-"""Draws a history and its labels as a picture.
+"""Draws a history and its labels, or a tally of them, as a picture.
 
-    python3 draw.py [BARS LABELS CHART]
+    python3 draw.py [BARS LABELS CHART | TALLY PICTURE]
 
-BARS has the lines that the labels program reads, LABELS those that it prints; CHART is the picture,
-an SVG file. Without names they are bars.csv, labels.csv and chart.svg beside this program. Of a
-longer history the newest 80 bars are drawn. The same files always give the same picture.
+BARS has the lines that the programs labels and tally read, LABELS and TALLY those that they print;
+CHART and PICTURE are SVG files. Without names both are drawn, from bars.csv and labels.csv to
+chart.svg and from tally.csv to tally.svg beside this program. Of a longer history the newest 80
+bars are drawn. The same files always give the same picture.
 """
 
 import math
@@ -24,6 +25,11 @@ CANDLES = 380  # from the highest price to the lowest
 LEAST_ROOM = 20  # above the highest price, and below the lowest
 MOST_BARS = 80
 MOST_FONT = 11.0
+
+TALLY_WIDTH = 720
+TALLY_ROW = 20
+NAME, LABEL, COUNTS = 46, 150, 246  # where the columns of a tally begin
+LONGEST = 400  # the bar of the greatest count
 
 UP, DOWN = "#0072b2", "#d55e00"  # told apart by colour-blind people too
 INK, GREY, GRID, PAPER = "#222222", "#767676", "#e8e8e8", "#ffffff"
@@ -54,14 +60,17 @@ RECOGNISERS = [
     ("tower", "ta_xing"),
 ]
 
-LABELS = set(
+# By code.
+LABELS = (
     "其他 任意 满足 锤子 上吊 看涨吞没 看跌吞没 上升三法 下降三法 5K 6K 7K 8K 9K 启明星 黄昏星 中间十字 "
     "下跌分手 上升分手 箭在弦 风中烛 看空 看多 底部 顶部 实体标准 常规 加强 半加强 蜻蜓十字线 墓碑十字线 "
-    "长腿十字线 十字线 北方 看涨反击线 看跌反击线 向上跳空 向下跳空".split()
-)
+    "长腿十字线 十字线 北方 看涨反击线 看跌反击线 向上跳空 向下跳空"
+).split()
+OTHER = LABELS[0]  # no pattern was seen
 
 PRICE = re.compile(r"nan|-?[0-9]{1,9}(\.[0-9]{1,6})?")
 LABEL_LINE = re.compile(r"([1-9][0-9]{0,6}),([0-9]|1[0-7]),([^,]+),([^,]+)")
+COUNT_LINE = re.compile(r"([0-9]|1[0-7]),([^,]+),([1-9][0-9]{0,6})")
 REFUSED_LINE = re.compile(r"refused,([0-9]+),([0-9]+)(?:,([1-4]))?")
 
 
@@ -95,25 +104,33 @@ def read_bars(path):
     return bars
 
 
+def stop_at_refusal(path, number, line):
+    refused = REFUSED_LINE.fullmatch(line)
+    if refused:
+        ordinal, refusal, field = refused.groups()
+        where = f", field {field}" if field else ""
+        raise Unfit(
+            f"{path}, line {number}: line {ordinal} of the bars was refused "
+            f"(refusal {refusal}{where})"
+        )
+
+
+def stop_unless_rising(path, number, line, before, place):
+    if place <= before:
+        raise Unfit(f"{path}, line {number}: out of order: {line!r}")
+
+
 def read_labels(path, count):
     """Texts of labels by the ordinal of their bar."""
     labels = {}
     before = (0, -1)
     for number, line in enumerate(lines_of(path), 1):
-        refused = REFUSED_LINE.fullmatch(line)
-        if refused:
-            ordinal, refusal, field = refused.groups()
-            where = f", field {field}" if field else ""
-            raise Unfit(
-                f"{path}, line {number}: the labels program refused line {ordinal} of the bars "
-                f"(refusal {refusal}{where})"
-            )
+        stop_at_refusal(path, number, line)
         match = LABEL_LINE.fullmatch(line)
-        if not match or not {match[3], match[4]} <= LABELS:
+        if not match or not {match[3], match[4]} <= set(LABELS):
             raise Unfit(f"{path}, line {number}: not ordinal,recogniser,v1,v2: {line[:80]!r}")
         place = (int(match[1]), int(match[2]))
-        if place <= before:
-            raise Unfit(f"{path}, line {number}: out of order: {line!r}")
+        stop_unless_rising(path, number, line, before, place)
         before = place
         ordinal, recogniser = place
         if ordinal > count:
@@ -121,6 +138,27 @@ def read_labels(path, count):
         name = RECOGNISERS[recogniser][0]
         labels.setdefault(ordinal, []).append((name, f"{match[3]}/{match[4]}"))
     return labels
+
+
+def read_tally(path):
+    """Counts by recogniser and label, in their order, and what each recogniser's add up to."""
+    tally = {}
+    before = (-1, 0)
+    for number, line in enumerate(lines_of(path), 1):
+        stop_at_refusal(path, number, line)
+        match = COUNT_LINE.fullmatch(line)
+        if not match or match[2] not in LABELS:
+            raise Unfit(f"{path}, line {number}: not recogniser,label,count: {line[:80]!r}")
+        place = (int(match[1]), LABELS.index(match[2]))
+        stop_unless_rising(path, number, line, before, place)
+        before = place
+        tally.setdefault(place[0], {})[match[2]] = int(match[3])
+    if not tally:
+        raise Unfit(f"{path}: no counts")
+    sums = {sum(tally.get(k, {}).values()) for k in range(len(RECOGNISERS))}
+    if len(sums) > 1:
+        raise Unfit(f"{path}: the counts of the recognisers add up to {sorted(sums)}")
+    return tally, sums.pop()
 
 
 def number(value):
@@ -220,20 +258,25 @@ def draw(bars, labels):
     rows = math.ceil(len(RECOGNISERS) / LEGEND_COLUMNS)
     full = bottom + AXIS + LEGEND_ROW * (rows + 1) + 20
     center = [left + step * (i + 0.5) for i in range(len(shown))]
-    out = [
-        '<?xml version="1.0" encoding="UTF-8"?>',
-        f'<svg xmlns="http://www.w3.org/2000/svg" width="{WIDTH}" height="{full}" '
-        f'viewBox="0 0 {WIDTH} {full}" role="img" font-family="{FONTS}">',
-        "<title>Candlestick patterns of a history</title>",
-        f'<rect width="{WIDTH}" height="{full}" fill="{PAPER}"/>',
-    ]
-    out += head(len(bars), first, sum(map(len, labels.values())))
+    out = head(len(bars), first, sum(map(len, labels.values())))
     out += axes(scale, first, center, step, top, bottom)
     for bar, x in zip(shown, center):
         out += candle(bar, x, step, scale, bottom)
     out += texts_of(placed, center, size)
     out += legend(bottom + AXIS)
-    out.append("</svg>")
+    return svg(WIDTH, full, "Candlestick patterns of a history", out)
+
+
+def svg(width, height, title, content):
+    out = [
+        '<?xml version="1.0" encoding="UTF-8"?>',
+        f'<svg xmlns="http://www.w3.org/2000/svg" width="{width}" height="{height}" '
+        f'viewBox="0 0 {width} {height}" role="img" font-family="{FONTS}">',
+        f"<title>{escape(title)}</title>",
+        f'<rect width="{width}" height="{height}" fill="{PAPER}"/>',
+        *content,
+        "</svg>",
+    ]
     return "\n".join(out) + "\n"
 
 
@@ -342,23 +385,77 @@ def legend(top):
     return out
 
 
+def draw_tally(tally, bars):
+    """A row for each label that was given; 其他, which would dwarf the others, has none."""
+    seen = {k: {label: n for label, n in c.items() if label != OTHER} for k, c in tally.items()}
+    greatest = max([count for counts in seen.values() for count in counts.values()], default=1)
+    out = tally_head(bars)
+    y = HEAD
+    for k, counts in sorted(seen.items()):
+        out.append(f'<path d="M{NAME - 26} {y}H{TALLY_WIDTH - RIGHT}" stroke="{GRID}"/>')
+        out += recogniser_of_tally(k, y)
+        for label, count in counts.items() or [(None, 0)]:
+            out += count_of_tally(label, count, LONGEST * count / greatest, y)
+            y += TALLY_ROW
+    return svg(TALLY_WIDTH, y + 20, "Tally of candlestick patterns", out)
+
+
+def tally_head(bars):
+    left = NAME - 26
+    what = f"how many of {bars:,} bars got each first label"
+    return [
+        text(left, 28, "Tally of candlestick patterns", 18, INK, ' font-weight="600"'),
+        text(left, 50, f"{what}; {OTHER} (no pattern), the rest, is left out", 12, GREY),
+    ]
+
+
+def recogniser_of_tally(k, y):
+    base = y + 14
+    return [
+        text(NAME - 8, base, str(k), 12, GREY, ' text-anchor="end"'),
+        text(NAME, base, RECOGNISERS[k][0]),
+    ]
+
+
+def count_of_tally(label, count, length, y):
+    base = y + 14
+    if label is None:
+        return [text(LABEL, base, "none", 12, GREY)]
+    return [
+        text(LABEL, base, label),
+        f'<rect x="{COUNTS}" y="{y + 4}" width="{number(length)}" height="{TALLY_ROW - 8}" '
+        f'fill="{UP}"/>',
+        text(COUNTS + length + 6, base, f"{count:,}"),
+    ]
+
+
+def chart_of(bars, labels):
+    bars = read_bars(bars)
+    return draw(bars, read_labels(labels, len(bars)))
+
+
+def tally_of(tally):
+    return draw_tally(*read_tally(tally))
+
+
 def main(arguments):
     here = Path(__file__).parent
-    names = arguments or [here / "bars.csv", here / "labels.csv", here / "chart.svg"]
-    if len(names) != 3:
-        print("draw.py [BARS LABELS CHART]", file=sys.stderr)
+    beside = [["bars.csv", "labels.csv", "chart.svg"], ["tally.csv", "tally.svg"]]
+    pictures = [arguments] if arguments else [[here / n for n in names] for names in beside]
+    if len(pictures[0]) not in (2, 3):
+        print("draw.py [BARS LABELS CHART | TALLY PICTURE]", file=sys.stderr)
         return 2
-    bars_path, labels_path, chart = map(Path, names)
-    try:
-        bars = read_bars(bars_path)
-        labels = read_labels(labels_path, len(bars))
-        chart.write_text(draw(bars, labels), encoding="utf-8")
-    except Unfit as unfit:
-        print(f"draw.py: {unfit}", file=sys.stderr)
-        return 1
-    except OSError as error:
-        print(f"draw.py: {chart}: {error.strerror}", file=sys.stderr)
-        return 1
+    for names in pictures:
+        *files, picture = map(Path, names)
+        try:
+            content = (chart_of if len(files) == 2 else tally_of)(*files)
+            picture.write_text(content, encoding="utf-8")
+        except Unfit as unfit:
+            print(f"draw.py: {unfit}", file=sys.stderr)
+            return 1
+        except OSError as error:
+            print(f"draw.py: {picture}: {error.strerror}", file=sys.stderr)
+            return 1
     return 0
 
 
