@@ -13,7 +13,7 @@ use Rattle.text.specs.LabelText.{bytesOf}
 use Rattle.text.specs.LineText.{comma}
 use Rattle.text.specs.Lines.{lineFeed}
 use Rattle.text.proofs.LabelLaws.{short}
-use Rattle.label_lines.specs.Output.{numeral, field, rowLine, rowLines}
+use Rattle.label_lines.specs.Output.{numeral, field, rowLine, rowLines, countLine}
 use Rattle.label_lines.proofs.NumeralLaws.{numeral-short}
 
 -- ---- bytes written behind bytes
@@ -59,6 +59,15 @@ pair-most ordinal k v1 v2 = go (eqb v1 0)
     go : (t : Bool) → length (cond t [] (rowLine ordinal k v1 v2)) ≤ 74
     go true = omega arith
     go false = row-most ordinal k v1 v2
+
+pub count-most : (k code count : ℕ) → length (countLine k code count) ≤ 58
+unfolding countLine
+count-most k code count =
+    let a = field (numeral k) comma in
+    let b = field (bytesOf code) comma in
+    let c = field (numeral count) lineFeed in
+    let all : length (a ++ b ++ c) ≡ length a + length b + length c = rw (length-append (a ++ b) c, length-append a b) in
+    omega (arith, all, number-most k comma, label-most code comma, number-most count lineFeed)
 
 -- ---- the lines of a sheet
 

@@ -2,7 +2,7 @@
 use Prim.Native.Nat.{ℕ, zero, suc, _+_, _*_, _/_}
 use mathlib.Core.Bool.{Bool, true, false, cond}
 use mathlib.Core.List.{List, [], _∷_, _++_}
-use lib.Dec.{ltb, eqb}
+use lib.Dec.{ltb, leb, eqb}
 use lib.ListN.{replicate}
 use Rattle.io.specs.Digits.{digits}
 use Rattle.measures.specs.Bar.{Bar}
@@ -67,6 +67,14 @@ refusalLine ordinal r = refusalPart ordinal r lineFeed
 -- for a bad price the line gains at its end the field's place: refused,3,9,2
 unfoldable pub badPriceLine : ℕ → ℕ → List ℕ
 badPriceLine ordinal place = refusalPart ordinal refusal.BadPrice comma ++ field (numeral place) lineFeed
+
+-- the recogniser, a label, and how many bars got it
+unfoldable pub countLine : ℕ → ℕ → ℕ → List ℕ
+countLine k code count = field (numeral k) comma ++ field (bytesOf code) comma ++ field (numeral count) lineFeed
+
+-- a line in so much room: all of it, or nothing where the room is less than such a line may need
+abbrev pub lineIn : ℕ → ℕ → List ℕ → List ℕ
+lineIn need room line = cond (leb need room) line []
 
 -- ---- a line of input
 

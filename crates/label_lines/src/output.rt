@@ -2,12 +2,13 @@
 ghost use mathlib.Core.Path.{_≡_};
 ghost use mathlib.Core.Bool.{cond};
 ghost use mathlib.Core.List.{[]};
-ghost use Prim.Native.Nat.{_+_, _≤_};
+ghost use Prim.Native.Nat.{_+_, _-_, _≤_};
 ghost use lib.Dec.{eqb};
 ghost use lib.ListN.{length};
 ghost use Rattle.bar_box.specs.Sheet.{overlay};
 ghost use Rattle.text.specs.LabelText.{bytesOf};
-ghost use Rattle.label_lines.specs.Output.{numeral, field, rowLine, rowLines, lineRoom, refusalPart, refusalLine, badPriceLine};
+ghost use Rattle.label_lines.specs.Output.{numeral, field, rowLine, rowLines, lineRoom, refusalPart, refusalLine, badPriceLine, countLine, lineIn};
+use measures::least;
 use recognisers::Refusal;
 use recognisers::call::refusal_number;
 use text::label_text;
@@ -111,4 +112,50 @@ pub(crate) fn write_bad_price(ordinal: u64, place: u8, out: &mut [u8], at: usize
 {
     let behind = write_part(ordinal, Refusal::BadPrice, COMMA, out, at);
     write_number(place as u64, LINE_FEED, out, behind)
+}
+
+// The line of a count: two numbers of at most 20 digits, a label of at most 15 bytes, and what ends each.
+fn write_count(k: u64, code: u8, count: u64, out: &mut [u8], at: usize) -> usize
+    requires { ⌜ at + 58 ≤ length (now out) ⌝ }
+    ensures { λ r. ⌜ (r ≡ at + length (countLine k code count)) × (now (out .exit) ≡ overlay (now (out .entry)) at (countLine k code count)) ⌝ }
+{
+    let a = write_number(k, COMMA, out, at);
+    let b = write_label(code, COMMA, out, a);
+    write_number(count, LINE_FEED, out, b)
+}
+
+// ---- for other programs: lines where there is room for the longest of their kind, and else nothing
+
+// The line of a count, from a place on, where 58 bytes are left.
+pub fn print_count(k: u64, code: u8, count: u64, out: &mut [u8], at: usize) -> usize
+    ensures { λ r. ⌜ (r ≡ at + length (lineIn 58 (length (now (out .entry)) - at) (countLine k code count))) × (now (out .exit) ≡ overlay (now (out .entry)) at (lineIn 58 (length (now (out .entry)) - at) (countLine k code count))) ⌝ }
+{
+    let left = out.len() - least(at, out.len());
+    if 58 <= left {
+        write_count(k, code, count, out, at)
+    } else {
+        at
+    }
+}
+
+// The line of a refusal, at the front of 50 bytes or more.
+pub fn print_refusal(ordinal: u64, why: Refusal, out: &mut [u8]) -> usize
+    ensures { λ r. ⌜ (r ≡ length (lineIn 50 (length (now (out .entry))) (refusalLine ordinal why))) × (now (out .exit) ≡ overlay (now (out .entry)) 0 (lineIn 50 (length (now (out .entry))) (refusalLine ordinal why))) ⌝ }
+{
+    if 50 <= out.len() {
+        write_refusal(ordinal, why, out, 0)
+    } else {
+        0
+    }
+}
+
+// The line of a bad price, at the front of 71 bytes or more.
+pub fn print_bad_price(ordinal: u64, place: u8, out: &mut [u8]) -> usize
+    ensures { λ r. ⌜ (r ≡ length (lineIn 71 (length (now (out .entry))) (badPriceLine ordinal place))) × (now (out .exit) ≡ overlay (now (out .entry)) 0 (lineIn 71 (length (now (out .entry))) (badPriceLine ordinal place))) ⌝ }
+{
+    if 71 <= out.len() {
+        write_bad_price(ordinal, place, out, 0)
+    } else {
+        0
+    }
 }

@@ -1,0 +1,52 @@
+-- Three fields, each behind the one before. Assumes nothing.
+use mathlib.Core.List.{_++_}
+use native.Mathlib.Omega.{arith}
+use borrow.Author.Needs.{needs}
+use Rattle.text.specs.LabelText.{bytesOf}
+use Rattle.text.specs.LineText.{comma}
+use Rattle.text.specs.Lines.{lineFeed}
+use Rattle.label_lines.specs.Output.{numeral, field, countLine}
+use Rattle.label_lines.proofs.OutputLaws.{number-most, label-most, written-on}
+use Rattle.label_lines.proofs.output.write_count.Statement.{statement}
+use Rattle.label_lines.proofs.output.write_count.Tie as tie
+
+write-number-requires : tie.Need-write-number-requires
+write-number-requires c κs = search needs
+
+write-label-requires : tie.Need-write-label-requires
+write-label-requires c κs = let args = c .before .before .before .before .before .before .args in omega (arith, number-most (args .k) comma)
+
+write-number-requires-2 : tie.Need-write-number-requires-2
+write-number-requires-2 c κs =
+    let args = c .before .before .before .before .before .before .before .before .before .before .args in
+    omega (arith, number-most (args .k) comma, label-most (args .code) comma)
+
+same-length : tie.Need-same-length
+same-length c = search needs
+
+returns : tie.Need-returns
+unfolding countLine
+returns c =
+    let third = c .before .before in
+    let second = third .before .before .before .before in
+    let first = second .before .before .before .before in
+    let args = first .before .before .before .args in
+    let s = args .out .now in
+    let x = field (numeral (args .k)) comma in
+    let y = field (bytesOf (args .code)) comma in
+    let z = field (numeral (args .count)) lineFeed in
+    let x-most = number-most (args .k) comma in
+    let y-most = label-most (args .code) comma in
+    let z-most = number-most (args .count) lineFeed in
+    let two = written-on s _ x _ _ y _ _ (omega (arith, x-most, y-most)) (first .write-number .ensures) (second .write-label .ensures) in
+    written-on s _ (x ++ y) _ _ z _ _ (omega (arith, x-most, y-most, z-most)) two (third .write-number2 .ensures)
+
+pub write-count-spec : {M : Type 1} → statement M
+write-count-spec =
+    tie.close
+    (tie.spec
+    write-number-requires
+    write-label-requires
+    write-number-requires-2
+    same-length
+    returns)
