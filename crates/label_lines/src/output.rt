@@ -140,7 +140,7 @@ pub fn print_count(k: u64, code: u8, count: u64, out: &mut [u8], at: usize) -> u
 
 // The line of a refusal, at the front of 50 bytes or more.
 pub fn print_refusal(ordinal: u64, why: Refusal, out: &mut [u8]) -> usize
-    ensures { λ r. ⌜ (r ≡ length (lineIn 50 (length (now (out .entry))) (refusalLine ordinal why))) × (now (out .exit) ≡ overlay (now (out .entry)) 0 (lineIn 50 (length (now (out .entry))) (refusalLine ordinal why))) ⌝ }
+    ensures { λ r. ⌜ (r ≤ length (now (out .entry))) × (r ≡ length (lineIn 50 (length (now (out .entry))) (refusalLine ordinal why))) × (now (out .exit) ≡ overlay (now (out .entry)) 0 (lineIn 50 (length (now (out .entry))) (refusalLine ordinal why))) ⌝ }
 {
     if 50 <= out.len() {
         write_refusal(ordinal, why, out, 0)
@@ -151,7 +151,7 @@ pub fn print_refusal(ordinal: u64, why: Refusal, out: &mut [u8]) -> usize
 
 // The line of a bad price, at the front of 71 bytes or more.
 pub fn print_bad_price(ordinal: u64, place: u8, out: &mut [u8]) -> usize
-    ensures { λ r. ⌜ (r ≡ length (lineIn 71 (length (now (out .entry))) (badPriceLine ordinal place))) × (now (out .exit) ≡ overlay (now (out .entry)) 0 (lineIn 71 (length (now (out .entry))) (badPriceLine ordinal place))) ⌝ }
+    ensures { λ r. ⌜ (r ≤ length (now (out .entry))) × (r ≡ length (lineIn 71 (length (now (out .entry))) (badPriceLine ordinal place))) × (now (out .exit) ≡ overlay (now (out .entry)) 0 (lineIn 71 (length (now (out .entry))) (badPriceLine ordinal place))) ⌝ }
 {
     if 71 <= out.len() {
         write_bad_price(ordinal, place, out, 0)

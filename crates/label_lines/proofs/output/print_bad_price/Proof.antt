@@ -14,10 +14,12 @@ same-length : tie.Need-same-length
 same-length c = search needs
 
 returns : tie.Need-returns
-returns c = rw (le-leb _ _ (c .before .before .before .before .if1 .taken)) (omega (arith, c .before .before .write-bad-price .ensures .1), c .before .before .write-bad-price .ensures .2)
+returns c =
+    let wrote = c .before .before .write-bad-price .ensures in
+    rw (le-leb _ _ (c .before .before .before .before .if1 .taken)) (omega (arith, wrote .0, c .before .before .before .before .if1 .taken), omega (arith, wrote .1), wrote .2)
 
 returns-2 : tie.Need-returns-2
-returns-2 c = rw (lt-leb _ _ (c .if1 .left)) (refl, sym (overlay-none (c .before .before .args .out .now) 0))
+returns-2 c = rw (lt-leb _ _ (c .if1 .left)) (omega arith, refl, sym (overlay-none (c .before .before .args .out .now) 0))
 
 pub print-bad-price-spec : {M : Type 1} → statement M
 print-bad-price-spec = tie.close (tie.spec write-bad-price-requires same-length returns returns-2)

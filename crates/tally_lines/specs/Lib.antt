@@ -1,0 +1,4 @@
+-- The tally program as definitions, from request P3 of document 02.
+pub mod Output
+pub mod Session
+pub mod History

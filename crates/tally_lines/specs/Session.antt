@@ -1,0 +1,142 @@
+-- The tally program, read by read: what it holds between two of them, what the bytes of one leave, and what the input's end prints.
+-- That this is what the input's lines print is proved in proofs/Whole.antt.
+use Prim.Native.Nat.{ℕ, _+_}
+use mathlib.Core.Bool.{Bool, true, false, cond}
+use mathlib.Core.List.{List, [], _∷_, _++_}
+use lib.Dec.{eqb}
+use lib.ListN.{length, replicate}
+use Rattle.measures.specs.Bar.{Bar}
+use Rattle.recognisers.specs.declared.call.Refusal.the-variants as refusal
+use Rattle.recognisers.specs.declared.call.Verdict.{Verdict}
+use Rattle.recognisers.specs.declared.call.Verdict.the-variants.{Accepted, Denied}
+use Rattle.recognisers.specs.Number.{rowBytes}
+use Rattle.recognisers.specs.Threshold.{standardSet}
+use Rattle.bar_box.specs.declared.boxes.BarBox.{BarBox}
+use Rattle.bar_box.specs.Box.{freshBox, leaves}
+use Rattle.bar_box.specs.History.{Feed, pricesOf}
+use Rattle.tallies.specs.declared.table.TallyRow.{TallyRow}
+use Rattle.tallies.specs.declared.feeds.Tallied.{Tallied}
+use Rattle.tallies.specs.Tally.{freshTally}
+use Rattle.tallies.specs.Feed.{lent, talliedOf}
+use Rattle.text.specs.declared.line_text.Line.{Line}
+use Rattle.text.specs.declared.line_text.Line.the-variants.{Prices, BadShape, BadPrice}
+use Rattle.text.specs.LineText.{lineOf}
+use Rattle.text.specs.Lines.{lineFeed, keptLine, content, partialOf}
+use Rattle.label_lines.specs.Output.{refusalLine, badPriceLine}
+use Rattle.tally_lines.specs.declared.reading.Stop.{Stop}
+use Rattle.tally_lines.specs.declared.reading.Stop.the-variants.{Going, By, Price}
+use Rattle.tally_lines.specs.declared.reading.Gathered.{Gathered}
+use Rattle.tally_lines.specs.declared.session.Session.{Session}
+use Rattle.tally_lines.specs.Output.{tallyLines}
+
+-- ---- bytes read as lines
+
+-- whether no line was refused; and what holds where none was, beside what holds else
+abbrev pub goesOn : Stop → Bool
+goesOn Going = true
+goesOn (By r) = false
+goesOn (Price place) = false
+
+-- the bars of the lines up to the first that is none, the line that has begun, of which the first bytes are kept, and whether one was refused
+pub record Read : Type 0 where
+  pub bars : List Bar
+  pub line : List ℕ
+  pub stop : Stop
+
+-- the end of a line behind these bars: its bar follows them, and then what comes on; one that is no bar is refused, and nothing comes
+abbrev pub afterLine : Line → List Bar → (List Bar → Read) → Read
+afterLine (Prices bar) bars on = on (bars ++ (bar ∷ []))
+afterLine BadShape bars on = record { bars = bars; line = []; stop = By refusal.BadShape }
+afterLine (BadPrice place) bars on = record { bars = bars; line = []; stop = Price place }
+
+-- bytes behind these bars and a line that has begun with the bytes cur
+unfoldable pub readFrom : List Bar → List ℕ → List ℕ → Read
+readFrom bars cur [] = record { bars = bars; line = keptLine cur; stop = Going }
+readFrom bars cur (b ∷ bytes) =
+    cond (eqb b lineFeed) (afterLine (lineOf cur) bars (λ more. readFrom more [] bytes)) (readFrom bars (cur ++ (b ∷ [])) bytes)
+
+-- ---- "A line is read as text first, then fed as one bar"
+
+-- a bar is fed by itself, with the tally and a sheet for its row
+abbrev pub barFeed : Bar → Feed
+barFeed bar = lent (pricesOf (bar ∷ [])) (replicate rowBytes 0)
+
+-- bars one after the other, up to the first that is refused
+unfoldable pub fedAll : BarBox → List TallyRow → List Bar → Tallied
+fedAll b tally [] = record { verdict = Accepted; after = b; tally = tally }
+fedAll b tally (bar ∷ bars) = let o = talliedOf b tally (barFeed bar) in leaves (o .verdict) o (fedAll (o .after) (o .tally) bars)
+
+-- ---- what is held between two reads
+
+-- the line that has begun, the box, the tally, and whether a line was refused
+pub record State : Type 0 where
+  pub line : List ℕ
+  pub box : BarBox
+  pub tally : List TallyRow
+  pub stop : Stop
+
+-- what a session holds, and the session that holds it
+abbrev pub stateOf : Session → State
+stateOf s = record { line = content (s .line); box = s .held; tally = s .tally; stop = s .stop }
+
+abbrev pub sessionOf : State → Session
+sessionOf s = record { line = partialOf (s .line); held = s .box; tally = s .tally; stop = s .stop }
+
+abbrev pub freshState : State
+freshState = record { line = []; box = freshBox standardSet; tally = freshTally; stop = Going }
+
+-- a refused feed refuses its line
+abbrev pub stopBy : Verdict → Stop → Stop
+stopBy Accepted stop = stop
+stopBy (Denied r) stop = By r
+
+-- what a feed of the bars that were read leaves; behind a bar that is refused, no line has begun
+abbrev pub settledBy : Tallied → Read → State
+settledBy o read = record { line = leaves (o .verdict) [] (read .line); box = o .after; tally = o .tally; stop = stopBy (o .verdict) (read .stop) }
+
+abbrev pub settled : BarBox → List TallyRow → Read → State
+settled b tally read = settledBy (fedAll b tally (read .bars)) read
+
+-- what bytes leave: nothing changes once a line was refused
+unfoldable pub takenOf : State → List ℕ → State
+takenOf s bytes = cond (goesOn (s .stop)) (settled (s .box) (s .tally) (readFrom [] (s .line) bytes)) s
+
+-- what reads leave, one after the other
+unfoldable pub readsLeave : State → List (List ℕ) → State
+readsLeave s [] = s
+readsLeave s (bytes ∷ reads) = readsLeave (takenOf s bytes) reads
+
+-- ---- what is printed
+
+-- the tally, or the refusal and nothing else; the ordinal of a refused line is one more than the bars before
+abbrev pub printedBy : Stop → BarBox → List TallyRow → List ℕ
+printedBy Going b tally = tallyLines 0 tally
+printedBy (By r) b tally = refusalLine (b .count + 1) r
+printedBy (Price place) b tally = badPriceLine (b .count + 1) place
+
+abbrev pub printed : State → List ℕ
+printed s = printedBy (s .stop) (s .box) (s .tally)
+
+-- at the input's end a line that has begun ends
+unfoldable pub closed : State → State
+closed s = cond (eqb (length (s .line)) 0) s (takenOf s (lineFeed ∷ []))
+
+abbrev pub endPrints : State → List ℕ
+endPrints s = printed (closed s)
+
+-- ---- the code's helpers
+
+-- what a line that has ended gives
+abbrev pub barsIn : Line → List Bar
+barsIn (Prices bar) = bar ∷ []
+barsIn BadShape = []
+barsIn (BadPrice place) = []
+
+abbrev pub stopIn : Line → Stop
+stopIn (Prices bar) = Going
+stopIn BadShape = By refusal.BadShape
+stopIn (BadPrice place) = Price place
+
+-- what was read of so many bytes, behind n bars
+abbrev pub gatheredOf : ℕ → ℕ → Read → Gathered
+gatheredOf used n read = record { line = partialOf (read .line); used = used; bars = n + length (read .bars); stop = read .stop }

@@ -1,0 +1,207 @@
+// What is held between two reads of an input, and what its end prints.
+ghost use mathlib.Core.Path.{_≡_};
+ghost use mathlib.Core.Bool.{true, cond};
+ghost use mathlib.Core.List.{[]};
+ghost use Prim.Native.Nat.{_+_, _*_, _≤_, _<_};
+ghost use lib.Dec.{leb};
+ghost use lib.ListN.{length, take};
+ghost use Rattle.measures.specs.Bar.{barsOf};
+ghost use Rattle.bar_box.specs.Sheet.{overlay};
+ghost use Rattle.text.specs.Lines.{content, partialOf};
+ghost use Rattle.tally_lines.specs.Output.{tallyRoom};
+ghost use Rattle.tally_lines.specs.Session.{goesOn, stateOf, sessionOf, freshState, fedAll, settledBy, takenOf, printed, closed, endPrints};
+use crate::output;
+use crate::reading;
+use crate::reading::Gathered;
+use crate::reading::Stop;
+use bar_box::BarBox;
+use label_lines::output::print_bad_price;
+use label_lines::output::print_refusal;
+use measures::least;
+use recognisers::Thresholds;
+use recognisers::call::Verdict;
+use tallies::TallyRow;
+use tallies::Tallied;
+use text::Partial;
+use text::lines;
+
+// The room for what the input's end may print: a line for each cell.
+const ROOM: usize = 39672;
+
+// The line that has begun, the box, the tally, and whether a line was refused.
+pub struct Session {
+    pub line: Partial,
+    pub held: BarBox,
+    pub tally: [TallyRow; 18],
+    pub stop: Stop,
+}
+
+// The session after the first used bytes.
+struct Taken {
+    session: Session,
+    used: usize,
+}
+
+// Before the first byte.
+pub fn begin() -> Session
+    ensures { λ r. ⌜ r ≡ sessionOf freshState ⌝ }
+{
+    let standard = Thresholds::standard();
+    let made = bar_box::make(standard);
+    let held = made.after;
+    let line = lines::begin();
+    let tally = tallies::fresh();
+    Session {
+        line,
+        held,
+        tally,
+        stop: Stop::Going,
+    }
+}
+
+// How many bars are fed at once: up to 1,024, as many as a box that counts so many may still take; or one, whose feed is then refused.
+fn batch(count: u32) -> usize
+    ensures { λ r. ⌜ (1 ≤ r) × (r ≤ 1024) × (1 < r → count + r ≤ 1000000) ⌝ }
+{
+    let left = 1000000 - least(count as usize, 1000000);
+    let most = least(left, 1024);
+    if most == 0 { 1 } else { most }
+}
+
+// Feeds bars all at once, which leaves what feeding them one by one does; no bars leave all as it is.
+fn feed_all(held: BarBox, tally: [TallyRow; 18], prices: &[f64]) -> Tallied
+    requires { ⌜ (length (now prices) ≡ 4 * length (barsOf (now prices))) × (length (now prices) ≤ 4096) × (1 < length (barsOf (now prices)) → held .count + length (barsOf (now prices)) ≤ 1000000) ⌝ }
+    ensures { λ r. ⌜ r ≡ fedAll held tally (barsOf (now (prices .entry))) ⌝ }
+{
+    if prices.len() == 0 {
+        Tallied {
+            verdict: Verdict::Accepted,
+            after: held,
+            tally,
+        }
+    } else {
+        let mut sheet = io::large_buffer();
+        tallies::feed(held, tally, prices, &mut sheet)
+    }
+}
+
+// What the feed of the bars that were gathered leaves: a refused one refuses its line.
+fn settle(fed: Tallied, got: Gathered) -> Session
+    requires { ⌜ got .line ≡ partialOf (content (got .line)) ⌝ }
+    ensures { λ r. ⌜ r ≡ sessionOf (settledBy fed (record { bars = []; line = content (got .line); stop = got .stop })) ⌝ }
+{
+    let held = fed.after;
+    let tally = fed.tally;
+    let verdict = fed.verdict;
+    match verdict {
+        Verdict::Denied(why) => Session {
+            line: lines::begin(),
+            held,
+            tally,
+            stop: Stop::By(why),
+        },
+        Verdict::Accepted => {
+            let line = got.line;
+            let stop = got.stop;
+            Session {
+                line,
+                held,
+                tally,
+                stop,
+            }
+        }
+    }
+}
+
+// Bytes up to a batch's end, or all of them.
+fn take_in(st: Session, chunk: &[u8]) -> Taken
+    requires { ⌜ (goesOn (st .stop) ≡ true) × (1 ≤ length (now chunk)) ⌝ }
+    ensures { λ r. ⌜ (1 ≤ r .used) × (r .used ≤ length (now (chunk .entry))) × (r .session ≡ sessionOf (takenOf (stateOf st) (take (r .used) (now (chunk .entry))))) ⌝ }
+{
+    let begun = st.line;
+    let held = st.held;
+    let tally = st.tally;
+    let most = batch(held.count);
+    let mut prices = [0.0; 4096];
+    let got = reading::gather(begun, chunk, most, &mut prices);
+    let n = 4 * got.bars;
+    let fed = feed_all(held, tally, &prices[..n]);
+    let session = settle(fed, got);
+    Taken {
+        session,
+        used: got.used,
+    }
+}
+
+// Bytes of input.
+pub fn absorb(st: Session, chunk: &[u8]) -> Session
+    ensures { λ r. ⌜ r ≡ sessionOf (takenOf (stateOf st) (now (chunk .entry))) ⌝ }
+{
+    // the line anew, so that the session is one value also where no byte is used
+    let begun = st.line;
+    let line = lines::extend(begun, &chunk[..0]);
+    let held = st.held;
+    let tally = st.tally;
+    let stop = st.stop;
+    let mut session = Session {
+        line,
+        held,
+        tally,
+        stop,
+    };
+    let mut used = 0usize;
+    let mut going = reading::goes_on(stop);
+    while (used < chunk.len()) & going {
+        let taken = take_in(session, &chunk[used..]);
+        session = taken.session;
+        used += taken.used;
+        let now = session.stop;
+        going = reading::goes_on(now);
+    }
+    session
+}
+
+// The input's end, where a line that has begun ends.
+fn close(st: Session) -> Session
+    ensures { λ r. ⌜ stateOf r ≡ closed (stateOf st) ⌝ }
+{
+    let line = st.line;
+    let none = lines::is_empty(line);
+    if none {
+        st
+    } else {
+        let feed = *b"\n";
+        absorb(st, &feed)
+    }
+}
+
+// The tally, or the refusal.
+fn print(st: Session, out: &mut [u8]) -> usize
+    requires { ⌜ tallyRoom ≤ length (now out) ⌝ }
+    ensures { λ r. ⌜ (r ≤ length (now (out .entry))) × (r ≡ length (printed (stateOf st))) × (now (out .exit) ≡ overlay (now (out .entry)) 0 (printed (stateOf st))) ⌝ }
+{
+    let held = st.held;
+    let ordinal = held.count as u64 + 1;
+    let stop = st.stop;
+    match stop {
+        Stop::Going => {
+            let tally = st.tally;
+            output::write_tally(tally, out)
+        }
+        Stop::By(why) => print_refusal(ordinal, why, out),
+        Stop::Price(place) => print_bad_price(ordinal, place, out),
+    }
+}
+
+// What the input's end prints. A buffer without the room that a tally may need, 39,672 bytes, stays as it is.
+pub fn end(st: Session, out: &mut [u8]) -> usize
+    ensures { λ r. ⌜ (r ≤ length (now (out .entry))) × (r ≡ length (cond (leb tallyRoom (length (now (out .entry)))) (endPrints (stateOf st)) [])) ⌝ }
+    ensures { λ r. ⌜ now (out .exit) ≡ overlay (now (out .entry)) 0 (cond (leb tallyRoom (length (now (out .entry)))) (endPrints (stateOf st)) []) ⌝ }
+{
+    if ROOM <= out.len() {
+        let last = close(st);
+        print(last, out)
+    } else {
+        0
+    }
+}
