@@ -2,7 +2,7 @@
 use Prim.Native.Nat.{ℕ, _≤_}
 use mathlib.Core.Bool.{Bool, true, false, cond, _&&_}
 use mathlib.Core.List.{List, [], _∷_, _++_}
-use mathlib.Core.Path.{_≡_, refl, sym, ap, _∙_}
+use mathlib.Core.Path.{_≡_, refl, sym, _∙_}
 use borrow.Author.Tests.{ltb-false}
 use lib.Dec.{ltb}
 use lib.ListN.{length, take, drop, take-append-drop}
@@ -21,7 +21,7 @@ use Rattle.tally_lines.specs.declared.reading.Stop.{Stop}
 use Rattle.tally_lines.specs.declared.reading.Stop.the-variants.{Going, By, Price}
 use Rattle.tally_lines.specs.declared.session.Session.{Session}
 use Rattle.tally_lines.specs.Session.{Read, State, goesOn, readFrom, barFeed, fedAll, settledBy, settled, takenOf, stateOf, sessionOf}
-use Rattle.tally_lines.proofs.ReadLaws.{resumed, behind, read-append, read-after, kept-again}
+use Rattle.tally_lines.proofs.ReadLaws.{behind, read-append, read-after, kept-again}
 
 -- ---- bars, one run behind another
 abbrev goneOn : Tallied → List Bar → Tallied

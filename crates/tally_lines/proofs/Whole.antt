@@ -1,6 +1,6 @@
 -- What reads leave, and then the input's end prints, is what the input's lines print over the whole history, however it is cut into reads.
 -- Assumes nothing.
-use Prim.Native.Nat.{ℕ, suc, _+_, _≤_}
+use Prim.Native.Nat.{ℕ, _+_, _≤_}
 use mathlib.Core.Bool.{Bool, true, false, cond}
 use mathlib.Core.List.{List, [], _∷_, _++_, map, append-assoc, append-nil}
 use mathlib.Core.Path.{_≡_, refl, sym, ap, _∙_}
@@ -24,7 +24,7 @@ use Rattle.label_lines.specs.Output.{refusalLine}
 use Rattle.label_lines.specs.Session.{joined}
 use Rattle.tally_lines.specs.declared.reading.Stop.the-variants.{Going}
 use Rattle.tally_lines.specs.Output.{cellLines, tallyLines}
-use Rattle.tally_lines.specs.Session.{Read, State, afterLine, readFrom, fedAll, settledBy, settled, takenOf, readsLeave, closed, printed, endPrints, freshState}
+use Rattle.tally_lines.specs.Session.{Read, State, afterLine, readFrom, fedAll, settled, takenOf, readsLeave, closed, printed, endPrints, freshState}
 use Rattle.tally_lines.specs.History.{historyTally, tallyPrints, outputOf}
 use Rattle.tally_lines.proofs.ReadLaws.{read-kept, read-after, read-feed}
 use Rattle.tally_lines.proofs.SessionLaws.{taken-append, none-taken}

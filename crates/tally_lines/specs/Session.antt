@@ -31,7 +31,7 @@ use Rattle.tally_lines.specs.Output.{tallyLines}
 
 -- ---- bytes read as lines
 
--- whether no line was refused; and what holds where none was, beside what holds else
+-- whether no line was refused
 abbrev pub goesOn : Stop → Bool
 goesOn Going = true
 goesOn (By r) = false
@@ -43,7 +43,7 @@ pub record Read : Type 0 where
   pub line : List ℕ
   pub stop : Stop
 
--- the end of a line behind these bars: its bar follows them, and then what comes on; one that is no bar is refused, and nothing comes
+-- the end of a line behind these bars: its bar follows them, and reading goes on; a line that is no bar is refused, and it doesn't
 abbrev pub afterLine : Line → List Bar → (List Bar → Read) → Read
 afterLine (Prices bar) bars on = on (bars ++ (bar ∷ []))
 afterLine BadShape bars on = record { bars = bars; line = []; stop = By refusal.BadShape }
@@ -137,6 +137,6 @@ stopIn (Prices bar) = Going
 stopIn BadShape = By refusal.BadShape
 stopIn (BadPrice place) = Price place
 
--- what was read of so many bytes, behind n bars
+-- what reading so many bytes gathers, behind n bars
 abbrev pub gatheredOf : ℕ → ℕ → Read → Gathered
 gatheredOf used n read = record { line = partialOf (read .line); used = used; bars = n + length (read .bars); stop = read .stop }

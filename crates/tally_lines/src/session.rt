@@ -20,8 +20,8 @@ use label_lines::output::print_refusal;
 use measures::least;
 use recognisers::Thresholds;
 use recognisers::call::Verdict;
-use tallies::TallyRow;
 use tallies::Tallied;
+use tallies::TallyRow;
 use text::Partial;
 use text::lines;
 
@@ -68,7 +68,8 @@ fn batch(count: u32) -> usize
     if most == 0 { 1 } else { most }
 }
 
-// Feeds bars all at once, which leaves what feeding them one by one does; no bars leave all as it is.
+// Feeds bars all at once, which leaves what feeding them one by one does (proofs/BatchLaws.antt). No bars, no feed: a tally that doesn't add
+// up is refused with the first bar.
 fn feed_all(held: BarBox, tally: [TallyRow; 18], prices: &[f64]) -> Tallied
     requires { ⌜ (length (now prices) ≡ 4 * length (barsOf (now prices))) × (length (now prices) ≤ 4096) × (1 < length (barsOf (now prices)) → held .count + length (barsOf (now prices)) ≤ 1000000) ⌝ }
     ensures { λ r. ⌜ r ≡ fedAll held tally (barsOf (now (prices .entry))) ⌝ }

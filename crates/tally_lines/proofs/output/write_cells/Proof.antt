@@ -5,16 +5,12 @@ use native.Mathlib.Omega.{arith}
 use borrow.Author.Needs.{needs}
 use lib.ListN.{length, getD, take, length-map}
 use lib.Seq.{take-all}
-use Rattle.bar_box.specs.Sheet.{overlay}
 use Rattle.bar_box.proofs.Overlay.{overlay-none}
 use Rattle.label_lines.proofs.OutputLaws.{Written, written-on}
 use Rattle.tally_lines.specs.Output.{cellLine, cellLines}
 use Rattle.tally_lines.proofs.OutputLaws.{cell-most, cells-next}
 use Rattle.tally_lines.proofs.output.write_cells.Statement.{statement}
 use Rattle.tally_lines.proofs.output.write_cells.Tie as tie
-use Rattle.tally_lines.proofs.output.write_cells.Reads as reads
-use Rattle.tally_lines.proofs.output.write_cells.Lts as lts
-use Rattle.tally_lines.proofs.output.write_cell.Reads as write-cell-reads
 
 abbrev Inv-loop : tie.InvT-loop
 Inv-loop k out₀ at counts c₀ place₀ out c place = (c ≤ 38) × (length out ≡ length out₀) × (place ≤ at + 58 * c) × Written out₀ at (cellLines k 0 (take c counts)) out place
@@ -22,40 +18,31 @@ Inv-loop k out₀ at counts c₀ place₀ out c place = (c ≤ 38) × (length ou
 abbrev μ-loop : tie.MeasureT-loop
 μ-loop k out₀ at counts c₀ place₀ out c place = 38 - c
 
--- src/output.rt:30:5
 loop-holds : tie.Need-loop-holds Inv-loop μ-loop
 unfolding cellLines
 loop-holds c = let args = c .before .before .args in (omega arith, refl, omega arith, (omega arith, sym (overlay-none (args .out .now) (args .at))))
 
--- src/output.rt:31:21
 mul-count : tie.Need-mul-count Inv-loop μ-loop
 mul-count c = search needs
 
--- src/output.rt:31:21
 array-read-count : tie.Need-array-read-count Inv-loop μ-loop
 array-read-count c = search needs
 
--- src/output.rt:32:31
 cast-write-cell : tie.Need-cast-write-cell Inv-loop μ-loop
 cast-write-cell c = search needs
 
--- src/output.rt:32:40
 cast-write-cell-2 : tie.Need-cast-write-cell-2 Inv-loop μ-loop
 cast-write-cell-2 c = search needs
 
--- src/output.rt:32:9
 write-cell-requires : tie.Need-write-cell-requires Inv-loop μ-loop
 write-cell-requires c κs = search needs
 
--- src/output.rt:33:9
 add-c : tie.Need-add-c Inv-loop μ-loop
 add-c c = search needs
 
--- src/output.rt:30:5
 loop-less : tie.Need-loop-less Inv-loop μ-loop
 loop-less c = search needs
 
--- src/output.rt:30:5
 loop-again : tie.Need-loop-again Inv-loop μ-loop
 loop-again c =
     let call = c .before .before in
@@ -72,11 +59,9 @@ loop-again c =
     let on = written-on (args .out .now) (args .at) (cellLines (args .k) 0 (take (loop .c) counts)) _ _ line _ _ (omega (arith, most, start .pre, inv .2)) (inv .3) (did .1, did .2) in
     (omega arith, call .write-cell .kept .1 .1 .1 .0 ∙ inv .1, omega (arith, did .0, inv .2), rw (cells-next (args .k) counts (loop .c) (omega (arith, all))) on)
 
--- src/output.rt:23:1
 same-length : tie.Need-same-length Inv-loop μ-loop
 same-length c = search needs
 
--- src/output.rt:23:1
 returns : tie.Need-returns Inv-loop μ-loop
 returns c =
     let at-loop = c .before in

@@ -1,5 +1,5 @@
 -- The loop's invariant: the lines of the rows passed stand at the front. Assumes nothing.
-use Prim.Native.Nat.{_+_, _-_, _*_, _≤_, _<_}
+use Prim.Native.Nat.{_-_, _*_, _≤_}
 use mathlib.Core.List.{[]}
 use mathlib.Core.Path.{_≡_, refl, sym, _∙_}
 use native.Mathlib.Omega.{arith}
@@ -13,9 +13,6 @@ use Rattle.tally_lines.specs.Output.{cellLines, tallyLines, rowRoom}
 use Rattle.tally_lines.proofs.OutputLaws.{rows-next}
 use Rattle.tally_lines.proofs.output.write_tally.Statement.{statement}
 use Rattle.tally_lines.proofs.output.write_tally.Tie as tie
-use Rattle.tally_lines.proofs.output.write_tally.Reads as reads
-use Rattle.tally_lines.proofs.output.write_tally.Lts as lts
-use Rattle.tally_lines.proofs.output.write_cells.Reads as write-cells-reads
 
 abbrev Inv-loop : tie.InvT-loop
 Inv-loop out₀ tally k₀ place₀ out k place = (k ≤ 18) × (length out ≡ length out₀) × (place ≤ rowRoom * k) × Written out₀ 0 (tallyLines 0 (take k tally)) out place
@@ -23,32 +20,25 @@ Inv-loop out₀ tally k₀ place₀ out k place = (k ≤ 18) × (length out ≡ 
 abbrev μ-loop : tie.MeasureT-loop
 μ-loop out₀ tally k₀ place₀ out k place = 18 - k
 
--- src/output.rt:45:5
 loop-holds : tie.Need-loop-holds Inv-loop μ-loop
 unfolding tallyLines
 loop-holds c = (omega arith, refl, omega arith, (refl, sym (overlay-none (c .before .args .out .now) 0)))
 
--- src/output.rt:46:19
 mul-row : tie.Need-mul-row Inv-loop μ-loop
 mul-row c = search needs
 
--- src/output.rt:46:19
 array-copy-out-row : tie.Need-array-copy-out-row Inv-loop μ-loop
 array-copy-out-row c = search needs
 
--- src/output.rt:47:9
 write-cells-requires : tie.Need-write-cells-requires Inv-loop μ-loop
 write-cells-requires c κs = search needs
 
--- src/output.rt:48:9
 add-k : tie.Need-add-k Inv-loop μ-loop
 add-k c = search needs
 
--- src/output.rt:45:5
 loop-less : tie.Need-loop-less Inv-loop μ-loop
 loop-less c = search needs
 
--- src/output.rt:45:5
 loop-again : tie.Need-loop-again Inv-loop μ-loop
 loop-again c =
     let call = c .before .before in
@@ -64,11 +54,9 @@ loop-again c =
     let on = written-on (args .out .now) 0 (tallyLines 0 (take (loop .k) tally)) _ _ lines _ _ (omega (arith, did .0, did .1, start .pre, inv .2)) (inv .3) (did .1, did .2) in
     (omega arith, call .write-cells .kept .1 .1 .0 ∙ inv .1, omega (arith, did .0, inv .2), rw (rows-next tally (loop .k) (rowOfCounts []) (omega (arith, all))) on)
 
--- src/output.rt:39:1
 same-length : tie.Need-same-length Inv-loop μ-loop
 same-length c = search needs
 
--- src/output.rt:39:1
 returns : tie.Need-returns Inv-loop μ-loop
 returns c =
     let at-loop = c .before in

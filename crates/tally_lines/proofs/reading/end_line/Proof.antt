@@ -9,88 +9,64 @@ use Rattle.tally_lines.proofs.PriceLaws.{put-bar}
 use borrow.Author.Needs.{needs}
 use Rattle.tally_lines.proofs.reading.end_line.Statement.{statement}
 use Rattle.tally_lines.proofs.reading.end_line.Tie as tie
-use Rattle.tally_lines.proofs.reading.end_line.Reads as reads
-use Rattle.tally_lines.proofs.reading.end_line.Lts as lts
-use Rattle.text.proofs.lines.begin.Reads as begin-reads
-use Rattle.text.proofs.lines.read.Reads as read-reads
 
--- src/reading.rt:47:9
 begin-requires : tie.Need-begin-requires
 begin-requires c κs = search needs
 
--- src/reading.rt:48:11
 read-requires : tie.Need-read-requires
 read-requires c κs = search needs
 
--- src/reading.rt:49:22
 enum-known-bar : tie.Need-enum-known-bar
 enum-known-bar c = search needs
 
--- src/reading.rt:50:22
 mul-at : tie.Need-mul-at
 mul-at c = search needs
 
--- src/reading.rt:51:13
 mul-prices : tie.Need-mul-prices
 mul-prices c = search needs
 
--- src/reading.rt:51:13
 slice-write-prices : tie.Need-slice-write-prices
 slice-write-prices c = search needs
 
--- src/reading.rt:52:20
 add-prices : tie.Need-add-prices
 add-prices c = search needs
 
--- src/reading.rt:52:13
 mul-prices-2 : tie.Need-mul-prices-2
 mul-prices-2 c = search needs
 
--- src/reading.rt:52:13
 slice-write-prices-2 : tie.Need-slice-write-prices-2
 slice-write-prices-2 c = simp length-set (omega arith)
 
--- src/reading.rt:53:20
 add-prices-2 : tie.Need-add-prices-2
 add-prices-2 c = search needs
 
--- src/reading.rt:53:13
 mul-prices-3 : tie.Need-mul-prices-3
 mul-prices-3 c = search needs
 
--- src/reading.rt:53:13
 slice-write-prices-3 : tie.Need-slice-write-prices-3
 slice-write-prices-3 c = simp length-set (omega arith)
 
--- src/reading.rt:54:20
 add-prices-3 : tie.Need-add-prices-3
 add-prices-3 c = search needs
 
--- src/reading.rt:54:13
 mul-prices-4 : tie.Need-mul-prices-4
 mul-prices-4 c = search needs
 
--- src/reading.rt:54:13
 slice-write-prices-4 : tie.Need-slice-write-prices-4
 slice-write-prices-4 c = simp length-set (omega arith)
 
--- src/reading.rt:58:23
 add-t11 : tie.Need-add-t11
 add-t11 c = search needs
 
--- src/reading.rt:66:28
 enum-told : tie.Need-enum-told
 enum-told c = search needs
 
--- src/reading.rt:68:24
 enum-known-place : tie.Need-enum-known-place
 enum-known-place c = search needs
 
--- src/reading.rt:43:1
 same-length : tie.Need-same-length
 same-length c = search needs
 
--- src/reading.rt:43:1
 returns : tie.Need-returns
 returns c =
     let reading = c .before .before .before in
@@ -99,7 +75,6 @@ returns c =
     let says = sym (reading .read .ensures) ∙ c .before .bar .given .1 in
     rw says (reading .before .begin .ensures, refl, refl, refl, put-bar (args .prices .now) (4 * args .n) (c .before .bar .given .0 .0) (omega (arith, start .pre)))
 
--- src/reading.rt:43:1
 returns-2 : tie.Need-returns-2
 unfolding pricesOf
 returns-2 c =
@@ -109,7 +84,6 @@ returns-2 c =
     let says = sym (reading .read .ensures) ∙ c .enum-told .given .1 in
     rw says (reading .before .begin .ensures, refl, omega arith, refl, sym (overlay-none (args .prices .now) (4 * args .n)))
 
--- src/reading.rt:43:1
 returns-3 : tie.Need-returns-3
 unfolding pricesOf
 returns-3 c =

@@ -1,13 +1,11 @@
 -- The loop's invariant: the bytes passed are read, their bars stand at the front of the run, and no byte passed means that none is read
 -- yet. Assumes nothing.
-use Prim.Native.Nat.{ℕ, _+_, _-_, _*_, _≤_, _<_}
-use mathlib.Core.Bool.{true, false}
+use Prim.Native.Nat.{_+_, _-_, _*_, _≤_, _<_}
+use mathlib.Core.Bool.{true}
 use mathlib.Core.List.{[], _++_, append-nil}
 use mathlib.Core.Path.{_≡_, refl, sym, ap, _∙_}
-use native.Mathlib.Decide.{decLe}
 use native.Mathlib.Omega.{arith}
 use borrow.Author.Needs.{needs}
-use borrow.Author.Tests.{ltb-true, lt-ltb}
 use lib.ListN.{length, take, drop, length-append, length-drop}
 use Rattle.bar_box.specs.Sheet.{overlay}
 use Rattle.bar_box.specs.History.{pricesOf}
@@ -16,18 +14,12 @@ use Rattle.bar_box.proofs.PriceLaws.{length-prices, prices-append}
 use Rattle.text.specs.Lines.{content, keptLine, partialOf}
 use Rattle.text.proofs.LineLaws.{content-partial}
 use Rattle.text.proofs.PartLaws.{to-end}
-use Rattle.text.proofs.RunLaws.{both}
 use Rattle.tally_lines.specs.declared.reading.Gathered.{Gathered}
 use Rattle.tally_lines.specs.Session.{goesOn, readFrom}
 use Rattle.tally_lines.proofs.GuardLaws.{goes-on, used-some}
 use Rattle.tally_lines.proofs.ReadLaws.{read-kept, read-turn, gathered-is, begun-kept}
 use Rattle.tally_lines.proofs.reading.gather.Statement.{statement}
 use Rattle.tally_lines.proofs.reading.gather.Tie as tie
-use Rattle.tally_lines.proofs.reading.gather.Reads as reads
-use Rattle.tally_lines.proofs.reading.gather.Lts as lts
-use Rattle.tally_lines.proofs.reading.goes_on.Reads as goes-on-reads
-use Rattle.tally_lines.proofs.reading.next_line.Reads as next-line-reads
-use Rattle.text.proofs.lines.extend.Reads as extend-reads
 
 abbrev Inv-loop : tie.InvT-loop
 Inv-loop chunk most prices₀ begun₀ used₀ bars₀ stop₀ going₀ prices begun used bars stop going =
@@ -45,34 +37,27 @@ Inv-loop chunk most prices₀ begun₀ used₀ bars₀ stop₀ going₀ prices b
 abbrev μ-loop : tie.MeasureT-loop
 μ-loop chunk most prices₀ begun₀ used₀ bars₀ stop₀ going₀ prices begun used bars stop going = length chunk - used
 
--- src/reading.rt:104:41
 slice-aggregate-extend : tie.Need-slice-aggregate-extend Inv-loop μ-loop
 slice-aggregate-extend c = search needs
 
--- src/reading.rt:104:9
 extend-requires : tie.Need-extend-requires Inv-loop μ-loop
 extend-requires c κs = search needs
 
--- src/reading.rt:109:5
 loop-holds : tie.Need-loop-holds Inv-loop μ-loop
 unfolding readFrom pricesOf
 loop-holds c =
     let start = c .before .before .before .before in
     (omega arith, omega arith, refl, begun-kept (c .extend .result) (content (start .args .line) ++ []) (c .extend .ensures), refl, refl, refl, sym (overlay-none (start .args .prices .now) 0), λ e. (omega (arith, start .pre .0), refl))
 
--- src/reading.rt:110:37
 sub-next-line : tie.Need-sub-next-line Inv-loop μ-loop
 sub-next-line c = search needs
 
--- src/reading.rt:110:37
 part-next-line-start : tie.Need-part-next-line-start Inv-loop μ-loop
 part-next-line-start c = search needs
 
--- src/reading.rt:110:37
 part-next-line-end : tie.Need-part-next-line-end Inv-loop μ-loop
 part-next-line-end c = search needs
 
--- src/reading.rt:110:13
 next-line-requires : tie.Need-next-line-requires Inv-loop μ-loop
 next-line-requires c κs =
     let at-loop = c .before .before .before in
@@ -82,7 +67,6 @@ next-line-requires c κs =
     let sure = goes-on (loop .used) (length chunk) (loop .bars) (start .args .most) (loop .going) (c .before .before .loop-test .taken) in
     (rw (to-end chunk (loop .used), length-drop) (omega (arith, sure .0)), omega (arith, start .pre .1, sure .1, loop .inv .2))
 
--- src/reading.rt:112:9
 add-used : tie.Need-add-used Inv-loop μ-loop
 add-used c =
     let at-loop = c .before .before .before .before .before .before .before .before in
@@ -93,11 +77,9 @@ add-used c =
     let most : loop .used + c .before .before .before .before .next-line .result .used ≤ length chunk = omega (arith, did .1, loop .inv .0) in
     search needs
 
--- src/reading.rt:115:9
 goes-on-requires : tie.Need-goes-on-requires Inv-loop μ-loop
 goes-on-requires c κs = search needs
 
--- src/reading.rt:109:5
 loop-less : tie.Need-loop-less Inv-loop μ-loop
 loop-less c =
     let at-loop = c .before .before .before .before .before .before .before .before .before in
@@ -107,7 +89,6 @@ loop-less c =
     let did = rw (to-end chunk (loop .used), length-drop) at (c .before .before .before .before .before .next-line .ensures .0) in
     omega (arith, did .0, did .1, loop .inv .0)
 
--- src/reading.rt:109:5
 loop-again : tie.Need-loop-again Inv-loop μ-loop
 loop-again c =
     let turn = c .before .before .before .before .before .next-line in
@@ -144,11 +125,9 @@ loop-again c =
       λ e. absurd (let z : ⊥ = omega (arith, did .0 .0) in z),
     )
 
--- src/reading.rt:98:1
 same-length : tie.Need-same-length Inv-loop μ-loop
 same-length c = search needs
 
--- src/reading.rt:98:1
 returns : tie.Need-returns Inv-loop μ-loop
 returns c =
     let at-loop = c .before in

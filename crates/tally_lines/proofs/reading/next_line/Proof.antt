@@ -16,37 +16,25 @@ use lib.Seq.{length-take-le}
 use borrow.Author.Needs.{needs}
 use Rattle.tally_lines.proofs.reading.next_line.Statement.{statement}
 use Rattle.tally_lines.proofs.reading.next_line.Tie as tie
-use Rattle.tally_lines.proofs.reading.next_line.Reads as reads
-use Rattle.tally_lines.proofs.reading.next_line.Lts as lts
-use Rattle.tally_lines.proofs.reading.end_line.Reads as end-line-reads
-use Rattle.text.proofs.lines.extend.Reads as extend-reads
-use Rattle.text.proofs.lines.piece_end.Reads as piece-end-reads
 
--- src/reading.rt:83:9
 piece-end-requires : tie.Need-piece-end-requires
 piece-end-requires c κs = search needs
 
--- src/reading.rt:84:38
 slice-aggregate-extend : tie.Need-slice-aggregate-extend
 slice-aggregate-extend c = sym (length-take-le _ _ (c .before .piece-end .ensures .1))
 
--- src/reading.rt:84:9
 extend-requires : tie.Need-extend-requires
 extend-requires c κs = search needs
 
--- src/reading.rt:86:26
 add-end-line : tie.Need-add-end-line
 add-end-line c = search needs
 
--- src/reading.rt:86:9
 end-line-requires : tie.Need-end-line-requires
 end-line-requires c κs = search needs
 
--- src/reading.rt:78:1
 same-length : tie.Need-same-length
 same-length c = search needs
 
--- src/reading.rt:78:1
 returns : tie.Need-returns
 returns c =
     let call = c .before .before in
@@ -65,7 +53,6 @@ returns c =
     let few = bars-few l in
     ((omega (arith, did .1), omega (arith, did .1, inside), omega (arith, did .2, few)), (rw read (gathered-is (call .end-line .result) (call .end-line .result .used) (args .n) r (did .0) refl (did .2) (did .3)), rw read (did .4)))
 
--- src/reading.rt:78:1
 returns-2 : tie.Need-returns-2
 unfolding pricesOf
 returns-2 c =

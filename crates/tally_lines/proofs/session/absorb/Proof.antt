@@ -1,8 +1,8 @@
 -- The loop's invariant: the session is what the bytes passed leave. Where the loop ends, those of the rest leave nothing else.
 -- Assumes nothing.
-use Prim.Native.Nat.{_+_, _-_, _≤_, _<_}
+use Prim.Native.Nat.{_+_, _-_, _≤_}
 use mathlib.Core.List.{[], _++_, append-nil}
-use mathlib.Core.Path.{_≡_, refl, sym, ap, _∙_}
+use mathlib.Core.Path.{_≡_, ap, _∙_}
 use native.Mathlib.Omega.{arith}
 use borrow.Author.Needs.{needs}
 use borrow.Author.Tests.{ltb-true}
@@ -17,11 +17,6 @@ use Rattle.tally_lines.specs.Session.{State, goesOn, stateOf, sessionOf,
 use Rattle.tally_lines.proofs.SessionLaws.{taken-append, state-session, session-stays, rest-left}
 use Rattle.tally_lines.proofs.session.absorb.Statement.{statement}
 use Rattle.tally_lines.proofs.session.absorb.Tie as tie
-use Rattle.tally_lines.proofs.session.absorb.Reads as reads
-use Rattle.tally_lines.proofs.session.absorb.Lts as lts
-use Rattle.tally_lines.proofs.reading.goes_on.Reads as goes-on-reads
-use Rattle.tally_lines.proofs.session.take_in.Reads as take-in-reads
-use Rattle.text.proofs.lines.extend.Reads as extend-reads
 
 abbrev Inv-loop : tie.InvT-loop
 Inv-loop chunk session₀ used₀ going₀ session used going =
@@ -30,19 +25,15 @@ Inv-loop chunk session₀ used₀ going₀ session used going =
 abbrev μ-loop : tie.MeasureT-loop
 μ-loop chunk session₀ used₀ going₀ session used going = length chunk - used
 
--- src/session.rt:142:37
 slice-aggregate-extend : tie.Need-slice-aggregate-extend Inv-loop μ-loop
 slice-aggregate-extend c = search needs
 
--- src/session.rt:142:9
 extend-requires : tie.Need-extend-requires Inv-loop μ-loop
 extend-requires c κs = search needs
 
--- src/session.rt:153:9
 goes-on-requires : tie.Need-goes-on-requires Inv-loop μ-loop
 goes-on-requires c κs = search needs
 
--- src/session.rt:154:5
 loop-holds : tie.Need-loop-holds Inv-loop μ-loop
 loop-holds c =
     let extended = c .before .before .before in
@@ -50,19 +41,15 @@ loop-holds c =
     let st : Session = record { line = extended .extend .result; held = args .st .held; tally = args .st .tally; stop = args .st .stop } in
     (omega arith, session-stays st (content (args .st .line) ++ []) (extended .extend .ensures), c .goes-on .ensures)
 
--- src/session.rt:155:38
 sub-take-in : tie.Need-sub-take-in Inv-loop μ-loop
 sub-take-in c = search needs
 
--- src/session.rt:155:38
 part-take-in-start : tie.Need-part-take-in-start Inv-loop μ-loop
 part-take-in-start c = search needs
 
--- src/session.rt:155:38
 part-take-in-end : tie.Need-part-take-in-end Inv-loop μ-loop
 part-take-in-end c = search needs
 
--- src/session.rt:155:13
 take-in-requires : tie.Need-take-in-requires Inv-loop μ-loop
 take-in-requires c κs =
     let at-loop = c .before .before in
@@ -72,7 +59,6 @@ take-in-requires c κs =
     let sure = both _ _ (c .before .loop-test .taken) in
     (rw (← loop .inv .2) (sure .1), rw (to-end chunk (loop .used), length-drop) (omega (arith, ltb-true (loop .used) (length chunk) (sure .0))))
 
--- src/session.rt:157:9
 add-used : tie.Need-add-used Inv-loop μ-loop
 add-used c =
     let turn = c .before .before .take-in in
@@ -83,11 +69,9 @@ add-used c =
     let most : loop .used + turn .result .used ≤ length chunk = omega (arith, did .1, loop .inv .0) in
     search needs
 
--- src/session.rt:159:9
 goes-on-requires-2 : tie.Need-goes-on-requires-2 Inv-loop μ-loop
 goes-on-requires-2 c κs = search needs
 
--- src/session.rt:154:5
 loop-less : tie.Need-loop-less Inv-loop μ-loop
 loop-less c =
     let turn = c .before .before .before .take-in in
@@ -97,7 +81,6 @@ loop-less c =
     let did = rw (to-end chunk (loop .used), length-drop) at (turn .ensures) in
     omega (arith, did .0, did .1, loop .inv .0)
 
--- src/session.rt:154:5
 loop-again : tie.Need-loop-again Inv-loop μ-loop
 loop-again c =
     let turn = c .before .before .before .take-in in
@@ -114,7 +97,6 @@ loop-again c =
     let did = rw (to-end chunk u, here) at (turn .ensures) in
     (omega (arith, inv .0, rw length-drop at (did .1)), rw (take-add u n chunk, taken-append s (take u chunk) (take n (drop u chunk))) (did .2), c .goes-on2 .ensures)
 
--- src/session.rt:137:1
 returns : tie.Need-returns Inv-loop μ-loop
 returns c =
     let at-loop = c .before in

@@ -9,12 +9,6 @@ use Rattle.bar_box.specs.Box.{freshBox, madeBy, madeOf}
 use borrow.Author.Needs.{needs}
 use Rattle.tally_lines.proofs.session.begin.Statement.{statement}
 use Rattle.tally_lines.proofs.session.begin.Tie as tie
-use Rattle.tally_lines.proofs.session.begin.Reads as reads
-use Rattle.tally_lines.proofs.session.begin.Lts as lts
-use Rattle.bar_box.proofs.make.Reads as make-reads
-use Rattle.rule_table.proofs.thresholds.Thresholds.standard.Reads as standard-reads
-use Rattle.tallies.proofs.fresh.Reads as fresh-reads
-use Rattle.text.proofs.lines.begin.Reads as begin-reads
 
 made-by : (v : Verdict) → madeBy v standardSet ≡ freshBox standardSet
 made-by Accepted = refl
@@ -24,23 +18,18 @@ made : madeOf standardSet .after ≡ freshBox standardSet
 unfolding madeOf
 made = made-by (firstTrue (badThreshold standardSet ∷ []))
 
--- src/session.rt:49:9
 standard-requires : tie.Need-standard-requires
 standard-requires c κs = search needs
 
--- src/session.rt:50:9
 make-requires : tie.Need-make-requires
 make-requires c κs = search needs
 
--- src/session.rt:52:9
 begin-requires : tie.Need-begin-requires
 begin-requires c κs = search needs
 
--- src/session.rt:53:9
 fresh-requires : tie.Need-fresh-requires
 fresh-requires c κs = search needs
 
--- src/session.rt:46:1
 returns : tie.Need-returns
 returns c =
     let made-box = c .before .before .before in

@@ -4,29 +4,20 @@ use Rattle.tally_lines.proofs.SessionLaws.{state-session}
 use borrow.Author.Needs.{needs}
 use Rattle.tally_lines.proofs.session.close.Statement.{statement}
 use Rattle.tally_lines.proofs.session.close.Tie as tie
-use Rattle.tally_lines.proofs.session.close.Reads as reads
-use Rattle.tally_lines.proofs.session.close.Lts as lts
-use Rattle.tally_lines.proofs.session.absorb.Reads as absorb-reads
-use Rattle.text.proofs.lines.is_empty.Reads as is-empty-reads
 
--- src/session.rt:169:9
 is-empty-requires : tie.Need-is-empty-requires
 is-empty-requires c κs = search needs
 
--- src/session.rt:174:20
 slice-aggregate-absorb : tie.Need-slice-aggregate-absorb
 slice-aggregate-absorb c = search needs
 
--- src/session.rt:174:9
 absorb-requires : tie.Need-absorb-requires
 absorb-requires c κs = search needs
 
--- src/session.rt:165:1
 returns : tie.Need-returns
 unfolding closed
 returns c = rw (← c .before .is-empty .ensures, c .if1 .taken)
 
--- src/session.rt:165:1
 returns-2 : tie.Need-returns-2
 unfolding closed
 returns-2 c =

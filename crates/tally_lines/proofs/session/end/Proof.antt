@@ -7,24 +7,16 @@ use Rattle.tally_lines.specs.Session.{printed}
 use borrow.Author.Needs.{needs}
 use Rattle.tally_lines.proofs.session.end.Statement.{statement}
 use Rattle.tally_lines.proofs.session.end.Tie as tie
-use Rattle.tally_lines.proofs.session.end.Reads as reads
-use Rattle.tally_lines.proofs.session.end.Lts as lts
-use Rattle.tally_lines.proofs.session.close.Reads as close-reads
-use Rattle.tally_lines.proofs.session.print.Reads as print-reads
 
--- src/session.rt:202:13
 close-requires : tie.Need-close-requires
 close-requires c κs = search needs
 
--- src/session.rt:203:9
 print-requires : tie.Need-print-requires
 print-requires c κs = search needs
 
--- src/session.rt:197:1
 same-length : tie.Need-same-length
 same-length c = search needs
 
--- src/session.rt:197:1
 returns : tie.Need-returns
 returns c =
     let call = c .before .before in
@@ -32,7 +24,6 @@ returns c =
     let did = rw says at (call .print .ensures) in
     rw (le-leb _ _ (call .before .before .before .if1 .taken)) ((did .0, did .1), did .2)
 
--- src/session.rt:197:1
 returns-2 : tie.Need-returns-2
 returns-2 c = rw (lt-leb _ _ (c .if1 .left)) ((omega arith, refl), sym (overlay-none (c .before .before .args .out .now) 0))
 

@@ -8,28 +8,19 @@ use Rattle.tally_lines.proofs.BatchLaws.{batch-fed, none-fed}
 use borrow.Author.Needs.{needs}
 use Rattle.tally_lines.proofs.session.feed_all.Statement.{statement}
 use Rattle.tally_lines.proofs.session.feed_all.Tie as tie
-use Rattle.tally_lines.proofs.session.feed_all.Reads as reads
-use Rattle.tally_lines.proofs.session.feed_all.Lts as lts
-use Rattle.io.proofs.large_buffer.Reads as large-buffer-reads
-use Rattle.tallies.proofs.feed.Reads as feed-reads
 
--- src/session.rt:83:25
 large-buffer-requires : tie.Need-large-buffer-requires
 large-buffer-requires c κs = search needs
 
--- src/session.rt:84:44
 slice-aggregate-feed : tie.Need-slice-aggregate-feed
 slice-aggregate-feed c = search needs
 
--- src/session.rt:84:9
 feed-requires : tie.Need-feed-requires
 feed-requires c κs = search needs
 
--- src/session.rt:72:1
 returns : tie.Need-returns
 returns c = let args = c .before .before .args in none-fed (args .held) (args .tally) (args .prices .now) (c .if1 .taken)
 
--- src/session.rt:72:1
 returns-2 : tie.Need-returns-2
 returns-2 c =
     let fed = c .before .feed in

@@ -5,49 +5,34 @@ use lib.ListN.{length}
 use borrow.Author.Needs.{needs}
 use Rattle.tally_lines.proofs.session.print.Statement.{statement}
 use Rattle.tally_lines.proofs.session.print.Tie as tie
-use Rattle.tally_lines.proofs.session.print.Reads as reads
-use Rattle.tally_lines.proofs.session.print.Lts as lts
-use Rattle.label_lines.proofs.output.print_bad_price.Reads as print-bad-price-reads
-use Rattle.label_lines.proofs.output.print_refusal.Reads as print-refusal-reads
-use Rattle.tally_lines.proofs.output.write_tally.Reads as write-tally-reads
 
--- src/session.rt:184:19
 cast-ordinal : tie.Need-cast-ordinal
 cast-ordinal c = search needs
 
--- src/session.rt:184:19
 add-ordinal : tie.Need-add-ordinal
 add-ordinal c = search needs
 
--- src/session.rt:188:17
 enum-told : tie.Need-enum-told
 enum-told c = search needs
 
--- src/session.rt:189:13
 write-tally-requires : tie.Need-write-tally-requires
 write-tally-requires c κs = search needs
 
--- src/session.rt:191:18
 enum-known-stop : tie.Need-enum-known-stop
 enum-known-stop c = search needs
 
--- src/session.rt:191:26
 print-refusal-requires : tie.Need-print-refusal-requires
 print-refusal-requires c κs = search needs
 
--- src/session.rt:192:21
 enum-known-stop-2 : tie.Need-enum-known-stop-2
 enum-known-stop-2 c = search needs
 
--- src/session.rt:192:31
 print-bad-price-requires : tie.Need-print-bad-price-requires
 print-bad-price-requires c κs = search needs
 
--- src/session.rt:179:1
 same-length : tie.Need-same-length
 same-length c = search needs
 
--- src/session.rt:179:1
 returns : tie.Need-returns
 returns c =
     let call = c .before .before in
@@ -55,11 +40,9 @@ returns c =
     let wrote = call .write-tally .ensures in
     rw (call .before .before .before .enum-told .given .1) (omega (arith, wrote .0, start .pre), wrote .1, wrote .2)
 
--- src/session.rt:179:1
 same-length-2 : tie.Need-same-length-2
 same-length-2 c = search needs
 
--- src/session.rt:179:1
 returns-2 : tie.Need-returns-2
 returns-2 c =
     let call = c .before .before in
@@ -68,11 +51,9 @@ returns-2 c =
     let wrote = rw (le-leb 50 (length out) (omega (arith, start .pre))) at (call .print-refusal .ensures) in
     rw (call .before .before .before .stop .given .1) wrote
 
--- src/session.rt:179:1
 same-length-3 : tie.Need-same-length-3
 same-length-3 c = search needs
 
--- src/session.rt:179:1
 returns-3 : tie.Need-returns-3
 returns-3 c =
     let call = c .before .before in

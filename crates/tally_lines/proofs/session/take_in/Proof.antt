@@ -14,38 +14,25 @@ use Rattle.tally_lines.proofs.SessionLaws.{taken-by}
 use borrow.Author.Needs.{needs}
 use Rattle.tally_lines.proofs.session.take_in.Statement.{statement}
 use Rattle.tally_lines.proofs.session.take_in.Tie as tie
-use Rattle.tally_lines.proofs.session.take_in.Reads as reads
-use Rattle.tally_lines.proofs.session.take_in.Lts as lts
-use Rattle.tally_lines.proofs.reading.gather.Reads as gather-reads
-use Rattle.tally_lines.proofs.session.batch.Reads as batch-reads
-use Rattle.tally_lines.proofs.session.feed_all.Reads as feed-all-reads
-use Rattle.tally_lines.proofs.session.settle.Reads as settle-reads
 
--- src/session.rt:124:9
 batch-requires : tie.Need-batch-requires
 batch-requires c κs = search needs
 
--- src/session.rt:126:51
 slice-aggregate-gather : tie.Need-slice-aggregate-gather
 slice-aggregate-gather c = search needs
 
--- src/session.rt:126:9
 gather-requires : tie.Need-gather-requires
 gather-requires c κs = search needs
 
--- src/session.rt:127:13
 mul-n : tie.Need-mul-n
 mul-n c = search needs
 
--- src/session.rt:128:37
 array-share-prefix-prices : tie.Need-array-share-prefix-prices
 array-share-prefix-prices c = search needs
 
--- src/session.rt:128:37
 slice-aggregate-feed-all : tie.Need-slice-aggregate-feed-all
 slice-aggregate-feed-all c = let got = c .before .before .before in sym (length-take-le _ _ (omega (arith, got .gather .kept .1 .1 .1 .0, got .gather .ensures .0 .2, got .before .before .batch .ensures .1)))
 
--- src/session.rt:128:9
 feed-all-requires : tie.Need-feed-all-requires
 feed-all-requires c κs =
     let got = c .before .before .before in
@@ -58,14 +45,12 @@ feed-all-requires c κs =
     let size = length-take-le (4 * got .gather .result .bars) (got .gather .last .1 .1 .1 .0) (omega (arith, got .gather .kept .1 .1 .1 .0, did .0 .2, made .1)) in
     rw (bars, size) (omega (arith, n), omega (arith, did .0 .2, made .1), λ some. omega (arith, n, did .0 .2, made .2 (omega (arith, n, did .0 .2))))
 
--- src/session.rt:129:9
 settle-requires : tie.Need-settle-requires
 settle-requires c κs =
     let got = c .before .before .before .before .gather in
     let is = ap (λ (g : Gathered). g .line) (got .ensures .1 .0) in
     rw (is, content-partial _)
 
--- src/session.rt:117:1
 returns : tie.Need-returns
 returns c =
     let got = c .before .before .before .before .before in
