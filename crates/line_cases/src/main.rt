@@ -4,7 +4,7 @@
 // The cases are, in turn: good lines and other numbers of fields; a field that is bad alone, and two and more; lengths; signs; spaces;
 // other ways to write a number; nan; points; digits; zeros; bytes that are no text; and 8 beside 9, each place and 80 and 81 bytes.
 //
-// Then the labels' texts and the limits of a session, a line each. Every function is proved safe and ending; what is written is seen in
+// Then the labels' texts, the limits of a session and tallies that a caller filled, a line each. Every function is proved safe and ending; what is written is seen in
 // the file stdout, which the gate holds this program to.
 ghost use Prim.Native.Nat.{_≤_, _<_};
 ghost use lib.ListN.{length};
@@ -13,6 +13,7 @@ mod labels;
 mod limits;
 mod print;
 mod run;
+mod tally;
 
 use libc::STDIN_FILENO;
 use measures::least;
@@ -88,4 +89,5 @@ fn main() {
     write_cases(&input[..n]);
     labels::write();
     limits::write();
+    tally::write();
 }

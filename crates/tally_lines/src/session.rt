@@ -20,6 +20,7 @@ use label_lines::output::print_refusal;
 use measures::least;
 use recognisers::Thresholds;
 use recognisers::call::Verdict;
+use recognisers::counts::MOST_BARS;
 use tallies::Tallied;
 use tallies::TallyRow;
 use text::Partial;
@@ -63,7 +64,7 @@ pub fn begin() -> Session
 fn batch(count: u32) -> usize
     ensures { λ r. ⌜ (1 ≤ r) × (r ≤ 1024) × (1 < r → count + r ≤ 1000000) ⌝ }
 {
-    let left = 1000000 - least(count as usize, 1000000);
+    let left = MOST_BARS - least(count as usize, MOST_BARS);
     let most = least(left, 1024);
     if most == 0 { 1 } else { most }
 }
