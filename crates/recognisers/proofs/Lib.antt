@@ -2,3 +2,4 @@
 pub mod Reach
 pub mod TableLaws
 pub mod ByteLaws
+pub mod CodeLaws

@@ -6,7 +6,7 @@ use mathlib.Core.Path.{_≡_, refl, ap, sym, _∙_}
 use native.Mathlib.Omega.{arith}
 use lib.ListN.{length, getD, replicate, getD-replicate}
 use Rattle.measures.specs.Bar.{Bar}
-use Rattle.rule_types.proofs.CodeLaws.{code-known}
+use Rattle.recognisers.proofs.CodeLaws.{code-known}
 use Rattle.recognisers.specs.Label.{Pair, codeOf}
 use Rattle.recognisers.specs.Number.{recognisers, labels, rowBytes}
 use Rattle.recognisers.specs.Table.{pairsAt, codesOf}
