@@ -1,8 +1,8 @@
 -- How many of the numbers below n pass a test, and rows of a sheet that have a code. Assumes nothing.
 use Prim.Native.Nat.{ℕ, zero, suc, _+_, _*_, _/_, _≤_, _<_}
 use mathlib.Core.Bool.{Bool, true, false, cond}
-use mathlib.Core.List.{List, [], _∷_, _++_}
-use mathlib.Core.Path.{_≡_, refl, sym, ap, _∙_}
+use mathlib.Core.List.{List, _++_}
+use mathlib.Core.Path.{_≡_, refl, sym, _∙_}
 use native.Mathlib.Nat.{add-zero, add-assoc}
 use native.Mathlib.Numerals.{add-one}
 use native.Mathlib.Omega.{arith}
@@ -11,8 +11,7 @@ use lib.Dec.{ltb, eqb}
 use lib.ListN.{length, getD, set, length-append, replicate, length-set, length-replicate, getD-replicate, List·getD-append}
 use lib.Seq.{getD-set-same, getD-set-other, getD-append-add}
 use Rattle.recognisers.specs.Number.{recognisers, labels, rowBytes}
-use Rattle.tallies.specs.declared.table.TallyRow.{TallyRow}
-use Rattle.tallies.specs.Tally.{countsOf, totalOf, countBelow, v1In, firstWith, rowsWith, gainRow, gained, counted}
+use Rattle.tallies.specs.Tally.{totalOf, countBelow, v1In, firstWith, rowsWith, gainRow}
 use Rattle.tallies.specs.Count.{Counted}
 use Rattle.tallies.proofs.PlaceLaws.{length-places}
 use Rattle.tallies.proofs.TallyLaws.{gain-gain, gain-none, total-one}

@@ -1,32 +1,30 @@
 -- A feed with a tally beside one without: its verdict, and what an accepted one leaves. Assumes nothing.
 use Prim.Native.Nat.{ℕ, _+_, _*_, _/_, _%_, _≤_}
 use mathlib.Core.Bool.{Bool, true, false, cond, not}
-use mathlib.Core.List.{List, [], _∷_, _++_}
+use mathlib.Core.List.{List}
 use mathlib.Core.Path.{_≡_, refl, ap, sym, _∙_}
 use native.Mathlib.Omega.{arith}
 use borrow.Author.Tests.{ltb-false, le-ltb, eq-eqb}
 use lib.Dec.{ltb, eqb}
 use lib.ListN.{length, take, drop}
 use lib.Seq.{take-at}
-use Rattle.measures.specs.Bar.{Bar, barsOf}
-use Rattle.measures.proofs.RunLaws.{length-bars}
+use Rattle.measures.specs.Bar.{barsOf}
 use Rattle.recognisers.specs.Number.{rowBytes, mostBars}
 use Rattle.recognisers.specs.Threshold.{Thresholds, validOf}
 use Rattle.recognisers.specs.Refusal.{firstTrue}
 use Rattle.recognisers.specs.declared.call.Refusal.{Refusal}
 use Rattle.recognisers.specs.declared.call.Refusal.the-variants.{BadThreshold, BrokenBars, TooManyBars, ShortSheet}
-use Rattle.recognisers.specs.declared.call.Verdict.{Verdict}
 use Rattle.recognisers.specs.declared.call.Verdict.the-variants.{Accepted, Denied}
 use Rattle.bar_box.specs.declared.boxes.BarBox.{BarBox}
-use Rattle.bar_box.specs.Sheet.{rowsOf, overlay}
+use Rattle.bar_box.specs.Sheet.{rowsOf}
 use Rattle.bar_box.specs.Box.{kept, takenIn, feedVerdict, fedOf, sheetOf}
-use Rattle.bar_box.specs.History.{Feed, fed, rowsIn}
+use Rattle.bar_box.specs.History.{Feed, fed}
 use Rattle.bar_box.proofs.SheetLaws.{length-rows}
 use Rattle.bar_box.proofs.FeedSteps.{fits}
 use Rattle.tallies.specs.declared.table.TallyRow.{TallyRow}
 use Rattle.tallies.specs.declared.feeds.Tallied.{Tallied}
 use Rattle.tallies.specs.Tally.{addsUp, counted}
-use Rattle.tallies.specs.Feed.{tallyVerdict, verdictWith, talliedOf, talliedSheet}
+use Rattle.tallies.specs.Feed.{tallyVerdict, verdictWith, talliedOf}
 
 -- ---- the verdict
 

@@ -1,5 +1,5 @@
 -- Bars taken in and counted in two parts, one after the other, for every box and tally. Assumes nothing.
-use Prim.Native.Nat.{ℕ, _+_, _*_, _/_}
+use Prim.Native.Nat.{ℕ, _+_, _/_}
 use mathlib.Core.Bool.{true}
 use mathlib.Core.List.{List, _++_}
 use mathlib.Core.Path.{_≡_, ap, sym, _∙_}

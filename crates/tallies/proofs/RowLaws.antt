@@ -1,5 +1,5 @@
 -- A table with the rows of a sheet counted: its shape, what it adds up to, and rows counted one run after the other. Assumes nothing.
-use Prim.Native.Nat.{ℕ, zero, suc, _+_, _*_, _/_, _≤_, _<_}
+use Prim.Native.Nat.{ℕ, zero, suc, _+_, _*_, _/_, _<_}
 use mathlib.Core.Bool.{true}
 use mathlib.Core.List.{List, [], _∷_, _++_}
 use mathlib.Core.Path.{_≡_, refl, ap, sym, _∙_}
@@ -7,13 +7,13 @@ use native.Mathlib.Omega.{arith}
 use lib.ListN.{length, getD, replicate, getD-replicate}
 use Rattle.measures.specs.Bar.{Bar}
 use Rattle.recognisers.proofs.CodeLaws.{code-known}
-use Rattle.recognisers.specs.Label.{Pair, codeOf}
+use Rattle.recognisers.specs.Label.{Pair}
 use Rattle.recognisers.specs.Number.{recognisers, labels, rowBytes}
 use Rattle.recognisers.specs.Table.{pairsAt, codesOf}
 use Rattle.recognisers.specs.Threshold.{Thresholds}
 use Rattle.bar_box.specs.Sheet.{rowOf, rowsOf}
 use Rattle.tallies.specs.declared.table.TallyRow.{TallyRow}
-use Rattle.tallies.specs.Tally.{freshTally, rowOfCounts, countsOf, cellOf, Shaped, totalOf, addsUp, countBelow, v1In, rowsWith, byPlace, gainRow, gained, counted}
+use Rattle.tallies.specs.Tally.{freshTally, rowOfCounts, countsOf, cellOf, Shaped, totalOf, addsUp, countBelow, v1In, rowsWith, byPlace, gainRow, counted}
 use Rattle.tallies.specs.Count.{Known}
 use Rattle.tallies.proofs.PlaceLaws.{length-places, places-kept}
 use Rattle.tallies.proofs.TallyLaws.{row-adds, rows-add, gain-none, counts-gained, gained-same, gained-gained}

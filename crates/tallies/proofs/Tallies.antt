@@ -17,8 +17,8 @@ use Rattle.recognisers.specs.declared.call.Verdict.{Verdict}
 use Rattle.recognisers.specs.declared.call.Verdict.the-variants.{Accepted, Denied}
 use Rattle.bar_box.specs.declared.boxes.BarBox.{BarBox}
 use Rattle.bar_box.specs.Sheet.{rowsOf}
-use Rattle.bar_box.specs.Box.{takenIn, leaves, feedVerdict, fedOf, sheetOf}
-use Rattle.bar_box.specs.History.{Feed, verdictOn, appended, historyAfter, fed, boxAfter, verdictsOf, rowsIn, joinedRows, oneFeed, printed, NoBars}
+use Rattle.bar_box.specs.Box.{takenIn, leaves, fedOf, sheetOf}
+use Rattle.bar_box.specs.History.{Feed, verdictOn, appended, historyAfter, fed, boxAfter, verdictsOf, rowsIn, joinedRows, oneFeed, NoBars}
 use Rattle.bar_box.proofs.SheetLaws.{length-rows, rows-append}
 use Rattle.bar_box.proofs.RowPairs.{pair-in}
 use Rattle.bar_box.proofs.FeedSteps.{count-after, verdict-step, box-step, rows-step}
@@ -26,7 +26,7 @@ use Rattle.bar_box.proofs.FeedLists.{sound-empty, sound-after, at-start, rows-a
 use Rattle.bar_box.proofs.Demand3.{demand-3}
 use Rattle.tallies.specs.declared.table.TallyRow.{TallyRow}
 use Rattle.tallies.specs.declared.feeds.Tallied.{Tallied}
-use Rattle.tallies.specs.Tally.{freshTally, countsOf, cellOf, totalOf, addsUp, countBelow, v1In, rowsWith, gained, counted}
+use Rattle.tallies.specs.Tally.{freshTally, countsOf, cellOf, addsUp, v1In, rowsWith, gained, counted}
 use Rattle.tallies.specs.Feed.{verdictWith, talliedOf, talliedSheet}
 use Rattle.tallies.specs.History.{boxWith, tallyAfter, verdictsWith, sheetsWith, rowsAfter, sheetsOf, barsWith, TallyHolds, Tallies}
 use Rattle.tallies.proofs.PlaceLaws.{at-place}

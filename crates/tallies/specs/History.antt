@@ -1,7 +1,6 @@
 -- What a list of feeds with a tally leaves, said of the list at once. The first part follows the calls; the second says what holds of them,
 -- beside the same list of feeds without a tally, the joined history and the joined rows of demand 3.
 use Prim.Native.Nat.{ℕ, _+_, _*_, _≤_, _<_}
-use mathlib.Core.Bool.{Bool}
 use mathlib.Core.List.{List, [], _∷_, _++_}
 use mathlib.Core.Path.{_≡_}
 use lib.Dec.{eqb}
@@ -18,7 +17,7 @@ use Rattle.bar_box.specs.History.{Feed, historyAfter, fed, boxAfter, verdictsOf
 use Rattle.tallies.specs.declared.table.TallyRow.{TallyRow}
 use Rattle.tallies.specs.declared.feeds.Tallied.{Tallied}
 use Rattle.tallies.specs.Tally.{freshTally, countsOf, cellOf, totalOf, countBelow, rowsWith}
-use Rattle.tallies.specs.Feed.{verdictWith, talliedOf, talliedSheet}
+use Rattle.tallies.specs.Feed.{talliedOf, talliedSheet}
 
 -- ---- the calls, as the contract of a feed with a tally has them
 

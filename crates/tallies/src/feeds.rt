@@ -1,6 +1,5 @@
 // A feed with a tally.
 ghost use mathlib.Core.Path.{_≡_};
-ghost use lib.ListN.{length};
 ghost use Rattle.tallies.specs.Tally.{Shaped};
 ghost use Rattle.tallies.specs.Feed.{lent, tallyVerdict, talliedOf, talliedSheet};
 use crate::counts;

@@ -18,7 +18,7 @@ use Rattle.bar_box.specs.History.{Feed}
 use Rattle.feeds.proofs.PartLaws.{partOf, restOf, part-bars, part-accepted, part-sheet, next-accepted}
 use Rattle.tallies.specs.declared.table.TallyRow.{TallyRow}
 use Rattle.tallies.specs.declared.feeds.Tallied.{Tallied}
-use Rattle.tallies.specs.Tally.{Shaped, addsUp, counted}
+use Rattle.tallies.specs.Tally.{Shaped, counted}
 use Rattle.tallies.specs.Feed.{lent, tallyVerdict, verdictWith, talliedOf, talliedSheet}
 use Rattle.tallies.proofs.FeedLaws.{plain-verdict, accepted-adds, tallied-accepted}
 use Rattle.tallies.proofs.PartLaws.{rowsFrom, parts-add, parts-counted}

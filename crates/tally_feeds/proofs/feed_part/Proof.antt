@@ -7,63 +7,46 @@ use Rattle.tally_feeds.proofs.PartLaws.{part-tallied, part-rows}
 use borrow.Author.Needs.{needs}
 use Rattle.tally_feeds.proofs.feed_part.Statement.{statement}
 use Rattle.tally_feeds.proofs.feed_part.Tie as tie
-use Rattle.tally_feeds.proofs.feed_part.Reads as reads
-use Rattle.tally_feeds.proofs.feed_part.Lts as lts
-use Rattle.tallies.proofs.feed.Reads as feed-reads
 
--- src/lib.rt:40:17
 mul-first : tie.Need-mul-first
 mul-first c = search needs
 
--- src/lib.rt:41:21
 add-past : tie.Need-add-past
 add-past c = search needs
 
--- src/lib.rt:41:16
 mul-past : tie.Need-mul-past
 mul-past c = search needs
 
--- src/lib.rt:42:14
 mul-at : tie.Need-mul-at
 mul-at c = search needs
 
--- src/lib.rt:43:29
 mul-feed : tie.Need-mul-feed
 mul-feed c = search needs
 
--- src/lib.rt:43:29
 sub-feed : tie.Need-sub-feed
 sub-feed c = search needs
 
--- src/lib.rt:43:29
 part-feed-start : tie.Need-part-feed-start
 part-feed-start c = search needs
 
--- src/lib.rt:43:29
 part-feed-end : tie.Need-part-feed-end
 part-feed-end c = omega (arith, length-bars (c .before .before .args .prices .now))
 
--- src/lib.rt:43:51
 sub-feed-2 : tie.Need-sub-feed-2
 sub-feed-2 c = search needs
 
--- src/lib.rt:43:51
 part-feed-start-2 : tie.Need-part-feed-start-2
 part-feed-start-2 c = search needs
 
--- src/lib.rt:43:51
 part-feed-end-2 : tie.Need-part-feed-end-2
 part-feed-end-2 c = search needs
 
--- src/lib.rt:43:5
 feed-requires : tie.Need-feed-requires
 feed-requires c κs = search needs
 
--- src/lib.rt:29:1
 same-length : tie.Need-same-length
 same-length c = search needs
 
--- src/lib.rt:29:1
 returns : tie.Need-returns
 returns c =
     let call = c .before .before in

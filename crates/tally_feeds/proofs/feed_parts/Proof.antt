@@ -19,11 +19,6 @@ use Rattle.tallies.proofs.PartLaws.{rowsFrom}
 use Rattle.tally_feeds.proofs.PartLaws.{plain-accepted, counted-more, next-tallied}
 use Rattle.tally_feeds.proofs.feed_parts.Statement.{statement}
 use Rattle.tally_feeds.proofs.feed_parts.Tie as tie
-use Rattle.tally_feeds.proofs.feed_parts.Reads as reads
-use Rattle.tally_feeds.proofs.feed_parts.Lts as lts
-use Rattle.measures.proofs.count.Reads as count-reads
-use Rattle.measures.proofs.least.Reads as least-reads
-use Rattle.tally_feeds.proofs.feed_part.Reads as feed-part-reads
 
 abbrev Inv-loop : tie.InvT-loop
 Inv-loop sizes prices sheet₀ total held₀ table₀ done₀ i₀ sheet held table done i = (done ≤ total) × (i ≤ length sizes) × (length sheet ≡ length sheet₀) × (held ≡ takenIn held₀ (take done (barsOf prices))) × (table ≡ counted (rowsFrom held₀ (take done (barsOf prices))) table₀) × (sheet ≡ overlay sheet₀ 0 (rowsFrom held₀ (take done (barsOf prices))))
@@ -31,11 +26,9 @@ Inv-loop sizes prices sheet₀ total held₀ table₀ done₀ i₀ sheet held ta
 abbrev μ-loop : tie.MeasureT-loop
 μ-loop sizes prices sheet₀ total held₀ table₀ done₀ i₀ sheet held table done i = length sizes - i
 
--- src/lib.rt:57:9
 count-requires : tie.Need-count-requires Inv-loop μ-loop
 count-requires c κs = tt
 
--- src/lib.rt:62:5
 loop-holds : tie.Need-loop-holds Inv-loop μ-loop
 unfolding rowsOf
 loop-holds c =
@@ -44,27 +37,21 @@ loop-holds c =
     let all : length (args .b .bars) ≡ 64 = simp length-map at (start .good .0 .1 .1 .1 .1 .0 .1 .0 .1) in
     (search needs, search needs, refl, sym (taken-none (args .b) all), sym (none-counted (args .tally)), sym (overlay-none (args .sheet .now) 0))
 
--- src/lib.rt:63:23
 mul-least : tie.Need-mul-least Inv-loop μ-loop
 mul-least c = search needs
 
--- src/lib.rt:63:23
 shared-slice-read-least : tie.Need-shared-slice-read-least Inv-loop μ-loop
 shared-slice-read-least c = search needs
 
--- src/lib.rt:63:23
 cast-least : tie.Need-cast-least Inv-loop μ-loop
 cast-least c = omega (arith, c .shared-slice-known3 .given (c .before .before .loop .i))
 
--- src/lib.rt:63:42
 sub-least : tie.Need-sub-least Inv-loop μ-loop
 sub-least c = search needs
 
--- src/lib.rt:63:13
 least-requires : tie.Need-least-requires Inv-loop μ-loop
 least-requires c κs = tt
 
--- src/lib.rt:64:13
 feed-part-requires : tie.Need-feed-part-requires Inv-loop μ-loop
 feed-part-requires c κs =
     let found = c .before in
@@ -80,19 +67,15 @@ feed-part-requires c κs =
     let plain = plain-accepted (args .b .thresholds) (args .b .count) (args .tally) (length (args .prices .now)) (length (args .sheet .now)) (start .pre .0) in
     (rw (inv .3, inv .4) (next-tallied (args .b) all (args .tally) (start .pre .1) (args .prices .now) passed n (length (args .sheet .now)) (start .pre .0) enough), enough, rw (inv .2) (next-room (args .b) (args .prices .now) (length (args .sheet .now)) passed n plain enough))
 
--- src/lib.rt:67:9
 add-done : tie.Need-add-done Inv-loop μ-loop
 add-done c = search needs
 
--- src/lib.rt:68:9
 add-i : tie.Need-add-i Inv-loop μ-loop
 add-i c = search needs
 
--- src/lib.rt:62:5
 loop-less : tie.Need-loop-less Inv-loop μ-loop
 loop-less c = search needs
 
--- src/lib.rt:62:5
 loop-again : tie.Need-loop-again Inv-loop μ-loop
 loop-again c =
     let call = c .before .before .before .before in
@@ -117,11 +100,9 @@ loop-again c =
       call .feed-part .ensures .2 ∙ rw (inv .3, inv .5) (rows-more (args .b) all bars passed n (args .sheet .now) enough room),
     )
 
--- src/lib.rt:70:53
 sub-feed-part : tie.Need-sub-feed-part Inv-loop μ-loop
 sub-feed-part c = search needs
 
--- src/lib.rt:70:9
 feed-part-requires-2 : tie.Need-feed-part-requires-2 Inv-loop μ-loop
 feed-part-requires-2 c κs =
     let at-loop = c .before .before in
@@ -136,11 +117,9 @@ feed-part-requires-2 c κs =
     let plain = plain-accepted (args .b .thresholds) (args .b .count) (args .tally) (length (args .prices .now)) (length (args .sheet .now)) (start .pre .0) in
     (rw (inv .3, inv .4) (next-tallied (args .b) all (args .tally) (start .pre .1) (args .prices .now) passed n (length (args .sheet .now)) (start .pre .0) enough), enough, rw (inv .2) (next-room (args .b) (args .prices .now) (length (args .sheet .now)) passed n plain enough))
 
--- src/lib.rt:47:1
 same-length : tie.Need-same-length Inv-loop μ-loop
 same-length c = search needs
 
--- src/lib.rt:47:1
 returns : tie.Need-returns Inv-loop μ-loop
 returns c =
     let call = c .before .before .before in

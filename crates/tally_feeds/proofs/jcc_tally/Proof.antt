@@ -1,59 +1,39 @@
 -- A refusal is the answer and leaves sheet and numbers; otherwise the feeds leave those of one feed. Assumes nothing.
-use mathlib.Core.Path.{_≡_, _∙_, ap, sym}
-use lib.ListN.{length}
-use Rattle.recognisers.specs.Threshold.{Thresholds, thresholdsOf}
+use mathlib.Core.Path.{_∙_, ap, sym}
+use Rattle.recognisers.specs.Threshold.{Thresholds}
 use Rattle.bar_box.specs.declared.boxes.Outcome.{Outcome}
 use Rattle.bar_box.specs.Box.{madeOf}
 use Rattle.feeds.specs.Result.{verdictNumber}
 use Rattle.feeds.proofs.PartLaws.{made-fresh}
-use Rattle.tallies.specs.Feed.{tallyVerdict}
 use Rattle.tally_feeds.proofs.PartLaws.{plain-accepted, one-refused, one-accepted}
 use borrow.Author.Needs.{needs}
 use Rattle.tally_feeds.proofs.jcc_tally.Statement.{statement}
 use Rattle.tally_feeds.proofs.jcc_tally.Tie as tie
-use Rattle.tally_feeds.proofs.jcc_tally.Reads as reads
-use Rattle.tally_feeds.proofs.jcc_tally.Lts as lts
-use Rattle.bar_box.proofs.make.Reads as make-reads
-use Rattle.recognisers.proofs.call.refusal_number.Reads as refusal-number-reads
-use Rattle.rule_table.proofs.thresholds.Thresholds.new.Reads as new-reads
-use Rattle.tallies.proofs.feeds.tally_verdict.Reads as tally-verdict-reads
-use Rattle.tally_feeds.proofs.feed_parts.Reads as feed-parts-reads
-use Rattle.tally_feeds.proofs.numbers.put.Reads as put-reads
-use Rattle.tally_feeds.proofs.numbers.table_of.Reads as table-of-reads
 
--- src/lib.rt:100:9
 new-requires : tie.Need-new-requires
 new-requires c κs = search needs
 
--- src/lib.rt:115:9
 table-of-requires : tie.Need-table-of-requires
 table-of-requires c κs = search needs
 
--- src/lib.rt:116:11
 tally-verdict-requires : tie.Need-tally-verdict-requires
 tally-verdict-requires c κs = search needs
 
--- src/lib.rt:117:25
 enum-known-why : tie.Need-enum-known-why
 enum-known-why c = search needs
 
--- src/lib.rt:117:33
 refusal-number-requires : tie.Need-refusal-number-requires
 refusal-number-requires c κs = search needs
 
--- src/lib.rt:117:33
 cast-result : tie.Need-cast-result
 cast-result c = search needs
 
--- src/lib.rt:119:17
 enum-told : tie.Need-enum-told
 enum-told c = search needs
 
--- src/lib.rt:119:17
 make-requires : tie.Need-make-requires
 make-requires c κs = search needs
 
--- src/lib.rt:121:17
 feed-parts-requires : tie.Need-feed-parts-requires
 feed-parts-requires c κs =
     let made = c .before .before in
@@ -63,15 +43,12 @@ feed-parts-requires c κs =
     let is-box = ap (λ (o : Outcome). o .after) (made .make .ensures) ∙ made-fresh _ _ _ _ (plain-accepted _ _ _ _ _ accepted) in
     (rw is-box accepted, call .tally-verdict .ensures .1)
 
--- src/lib.rt:122:13
 put-requires : tie.Need-put-requires
 put-requires c κs = search needs
 
--- src/lib.rt:76:1
 same-length : tie.Need-same-length
 same-length c = search needs
 
--- src/lib.rt:76:1
 returns : tie.Need-returns
 returns c =
     let call = c .before .before .before .before in
@@ -82,15 +59,12 @@ returns c =
     let one = one-refused _ (args .numbers .now) (args .prices .now) (args .sheet .now) _ denied in
     (c .refusal-number .ensures ∙ ap verdictNumber (sym (one .0)), sym (one .1), sym (one .2))
 
--- src/lib.rt:76:1
 same-length-2 : tie.Need-same-length-2
 same-length-2 c = search needs
 
--- src/lib.rt:76:1
 same-length-3 : tie.Need-same-length-3
 same-length-3 c = search needs
 
--- src/lib.rt:76:1
 returns-2 : tie.Need-returns-2
 returns-2 c =
     let put = c .before .before in

@@ -1,7 +1,7 @@
 -- The loop's invariant: the rows passed have gained their numbers. Assumes nothing.
 use Prim.Native.Nat.{ℕ, _+_, _-_, _*_, _≤_, _<_}
 use mathlib.Core.List.{[], append-nil}
-use mathlib.Core.Path.{_≡_, refl, ap, _∙_}
+use mathlib.Core.Path.{_≡_, refl, ap}
 use native.Mathlib.Omega.{arith}
 use borrow.Author.Needs.{needs}
 use lib.ListN.{length, getD, drop-of-length-le}
@@ -11,9 +11,6 @@ use Rattle.tallies.specs.Tally.{rowOfCounts, byPlace, gainRow}
 use Rattle.tallies.proofs.PlaceLaws.{changed, changed-next}
 use Rattle.tallies.proofs.counts.add.Statement.{statement}
 use Rattle.tallies.proofs.counts.add.Tie as tie
-use Rattle.tallies.proofs.counts.add.Reads as reads
-use Rattle.tallies.proofs.counts.add.Lts as lts
-use Rattle.tallies.proofs.counts.add_row.Reads as add-row-reads
 
 abbrev Inv-loop : tie.InvT-loop
 Inv-loop numbers tally next₀ k₀ next k = (k ≤ 18) × (length tally ≡ 18) × (next ≡ changed (λ i row. rowOfCounts (gainRow (λ c. getD numbers (38 * i + c) 0) (row .counts))) k tally)
@@ -21,43 +18,34 @@ Inv-loop numbers tally next₀ k₀ next k = (k ≤ 18) × (length tally ≡ 18)
 abbrev μ-loop : tie.MeasureT-loop
 μ-loop numbers tally next₀ k₀ next k = 18 - k
 
--- src/counts.rt:61:5
 loop-holds : tie.Need-loop-holds Inv-loop μ-loop
 unfolding byPlace
 loop-holds c = (omega arith, c .before .good .0 .1 .0 .1, refl)
 
--- src/counts.rt:62:19
 mul-row : tie.Need-mul-row Inv-loop μ-loop
 mul-row c = search needs
 
--- src/counts.rt:62:19
 array-copy-out-row : tie.Need-array-copy-out-row Inv-loop μ-loop
 array-copy-out-row c = search needs
 
--- src/counts.rt:63:19
 add-row-requires : tie.Need-add-row-requires Inv-loop μ-loop
 add-row-requires c κs =
     let at-loop = c .before .before in
     let start = at-loop .before .before in
     (omega arith, start .pre .0, start .pre .1 (at-loop .loop .k) (omega arith))
 
--- src/counts.rt:63:9
 mul-next : tie.Need-mul-next Inv-loop μ-loop
 mul-next c = search needs
 
--- src/counts.rt:63:9
 array-set-from-next : tie.Need-array-set-from-next Inv-loop μ-loop
 array-set-from-next c = search needs
 
--- src/counts.rt:64:9
 add-k : tie.Need-add-k Inv-loop μ-loop
 add-k c = search needs
 
--- src/counts.rt:61:5
 loop-less : tie.Need-loop-less Inv-loop μ-loop
 loop-less c = search needs
 
--- src/counts.rt:61:5
 loop-again : tie.Need-loop-again Inv-loop μ-loop
 loop-again c =
     let at-loop = c .before .before .before in
@@ -69,7 +57,6 @@ loop-again c =
     let row : c .add-row .result ≡ change k (getD tally k (rowOfCounts [])) = ap rowOfCounts (c .add-row .ensures) in
     (omega arith, at-loop .loop .inv .1, rw (at-loop .loop .inv .2, row) (changed-next change tally k (rowOfCounts []) inside))
 
--- src/counts.rt:55:1
 returns : tie.Need-returns Inv-loop μ-loop
 returns c =
     let inv = c .before .loop .inv in

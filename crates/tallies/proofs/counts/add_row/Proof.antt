@@ -1,7 +1,7 @@
 -- The loop's invariant: the counts passed have gained their numbers. Assumes nothing.
 use Prim.Native.Nat.{ℕ, _+_, _-_, _*_, _≤_, _<_}
 use mathlib.Core.List.{append-nil}
-use mathlib.Core.Path.{_≡_, refl, _∙_}
+use mathlib.Core.Path.{_≡_, refl}
 use native.Mathlib.Omega.{arith}
 use borrow.Author.Needs.{needs}
 use lib.ListN.{length, getD, length-map, drop-of-length-le}
@@ -10,8 +10,6 @@ use Rattle.tallies.specs.Tally.{byPlace}
 use Rattle.tallies.proofs.PlaceLaws.{changed, changed-at, changed-next}
 use Rattle.tallies.proofs.counts.add_row.Statement.{statement}
 use Rattle.tallies.proofs.counts.add_row.Tie as tie
-use Rattle.tallies.proofs.counts.add_row.Reads as reads
-use Rattle.tallies.proofs.counts.add_row.Lts as lts
 
 abbrev Inv-loop : tie.InvT-loop
 Inv-loop k numbers counts₀ c₀ counts c = (c ≤ 38) × (length counts₀ ≡ 38) × (counts ≡ changed (λ i count. count + getD numbers (38 * k + i) 0) c counts₀)
@@ -19,36 +17,28 @@ Inv-loop k numbers counts₀ c₀ counts c = (c ≤ 38) × (length counts₀ ≡
 abbrev μ-loop : tie.MeasureT-loop
 μ-loop k numbers counts₀ c₀ counts c = 38 - c
 
--- src/counts.rt:47:5
 loop-holds : tie.Need-loop-holds Inv-loop μ-loop
 unfolding byPlace
 loop-holds c = (omega arith, simp length-map at (c .before .good .0 .1 .1 .0 .1 .0 .1), refl)
 
--- src/counts.rt:48:30
 mul-counts : tie.Need-mul-counts Inv-loop μ-loop
 mul-counts c = search needs
 
--- src/counts.rt:48:30
 add-counts : tie.Need-add-counts Inv-loop μ-loop
 add-counts c = search needs
 
--- src/counts.rt:48:22
 mul-counts-2 : tie.Need-mul-counts-2 Inv-loop μ-loop
 mul-counts-2 c = search needs
 
--- src/counts.rt:48:22
 shared-slice-read-counts : tie.Need-shared-slice-read-counts Inv-loop μ-loop
 shared-slice-read-counts c = search needs
 
--- src/counts.rt:48:9
 mul-counts-3 : tie.Need-mul-counts-3 Inv-loop μ-loop
 mul-counts-3 c = search needs
 
--- src/counts.rt:48:9
 array-read-counts : tie.Need-array-read-counts Inv-loop μ-loop
 array-read-counts c = search needs
 
--- src/counts.rt:48:9
 add-counts-2 : tie.Need-add-counts-2 Inv-loop μ-loop
 add-counts-2 c =
     let at-loop = c .before .before in
@@ -59,19 +49,15 @@ add-counts-2 c =
     let fits = start .pre .2 (at-loop .loop .c) (omega arith) in
     rw (at-loop .loop .inv .2, had) (record { fits = fits })
 
--- src/counts.rt:48:9
 array-write-counts : tie.Need-array-write-counts Inv-loop μ-loop
 array-write-counts c = search needs
 
--- src/counts.rt:49:9
 add-c : tie.Need-add-c Inv-loop μ-loop
 add-c c = search needs
 
--- src/counts.rt:47:5
 loop-less : tie.Need-loop-less Inv-loop μ-loop
 loop-less c = search needs
 
--- src/counts.rt:47:5
 loop-again : tie.Need-loop-again Inv-loop μ-loop
 loop-again c =
     let at-loop = c .before .before in
@@ -83,7 +69,6 @@ loop-again c =
     let change : ℕ → ℕ → ℕ = λ i count. count + getD numbers (38 * k + i) 0 in
     (omega arith, at-loop .loop .inv .1, rw (at-loop .loop .inv .2, changed-at change counts (at-loop .loop .c) 0 inside) (changed-next change counts (at-loop .loop .c) 0 inside))
 
--- src/counts.rt:41:1
 returns : tie.Need-returns Inv-loop μ-loop
 returns c =
     let inv = c .before .loop .inv in

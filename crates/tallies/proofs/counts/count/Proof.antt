@@ -1,6 +1,6 @@
 -- No count passes 32 bits, since a row's counts add up to the bars. Assumes nothing.
-use Prim.Native.Nat.{ℕ, _+_, _*_, _/_, _<_}
-use mathlib.Core.Path.{_≡_, _∙_}
+use Prim.Native.Nat.{_+_, _*_, _/_, _<_}
+use mathlib.Core.Path.{_∙_}
 use native.Mathlib.Omega.{arith}
 use lib.Dec.{eqb}
 use lib.ListN.{length, getD}
@@ -10,20 +10,13 @@ use Rattle.tallies.proofs.CountLaws.{count-most}
 use borrow.Author.Needs.{needs}
 use Rattle.tallies.proofs.counts.count.Statement.{statement}
 use Rattle.tallies.proofs.counts.count.Tie as tie
-use Rattle.tallies.proofs.counts.count.Reads as reads
-use Rattle.tallies.proofs.counts.count.Lts as lts
-use Rattle.tallies.proofs.counts.add.Reads as add-reads
-use Rattle.tallies.proofs.counts.count_rows.Reads as count-rows-reads
 
--- src/counts.rt:74:19
 count-rows-requires : tie.Need-count-rows-requires
 count-rows-requires c κs = search needs
 
--- src/counts.rt:75:16
 slice-aggregate-add : tie.Need-slice-aggregate-add
 slice-aggregate-add c = search needs
 
--- src/counts.rt:75:5
 add-requires : tie.Need-add-requires
 add-requires c κs =
     let start = c .before .before .before in
@@ -39,7 +32,6 @@ add-requires c κs =
           rw (numbers .1 k code known label) (omega (arith, cell, sum, most, pre .3)),
     )
 
--- src/counts.rt:70:1
 returns : tie.Need-returns
 unfolding counted rowsWith
 returns c =

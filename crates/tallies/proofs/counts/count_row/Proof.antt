@@ -1,14 +1,12 @@
 -- The loop's invariant: of the recognisers passed the row is counted. Assumes nothing.
-use Prim.Native.Nat.{_+_, _-_, _*_, _≤_}
-use mathlib.Core.Path.{_≡_, refl, _∙_}
+use Prim.Native.Nat.{_-_, _≤_}
+use mathlib.Core.Path.{_≡_}
 use native.Mathlib.Omega.{arith}
 use borrow.Author.Needs.{needs}
-use lib.ListN.{length, length-set}
+use lib.ListN.{length}
 use Rattle.tallies.proofs.CountLaws.{Passed, none-passed, all-passed, number-most, next-passed}
 use Rattle.tallies.proofs.counts.count_row.Statement.{statement}
 use Rattle.tallies.proofs.counts.count_row.Tie as tie
-use Rattle.tallies.proofs.counts.count_row.Reads as reads
-use Rattle.tallies.proofs.counts.count_row.Lts as lts
 
 abbrev Inv-loop : tie.InvT-loop
 Inv-loop sheet i numbers₀ k₀ numbers k = (k ≤ 18) × (length numbers₀ ≡ 684) × (Passed sheet i k numbers)
@@ -16,27 +14,21 @@ Inv-loop sheet i numbers₀ k₀ numbers k = (k ≤ 18) × (length numbers₀ �
 abbrev μ-loop : tie.MeasureT-loop
 μ-loop sheet i numbers₀ k₀ numbers k = 18 - k
 
--- src/counts.rt:18:5
 loop-holds : tie.Need-loop-holds Inv-loop μ-loop
 loop-holds c = (omega arith, c .pre .3 .0, none-passed (c .args .sheet .now) (c .args .i) (c .args .numbers .now) (c .pre .3))
 
--- src/counts.rt:19:26
 mul-code : tie.Need-mul-code Inv-loop μ-loop
 mul-code c = search needs
 
--- src/counts.rt:19:42
 mul-code-2 : tie.Need-mul-code-2 Inv-loop μ-loop
 mul-code-2 c = search needs
 
--- src/counts.rt:19:26
 add-code : tie.Need-add-code Inv-loop μ-loop
 add-code c = search needs
 
--- src/counts.rt:19:20
 shared-slice-read-code : tie.Need-shared-slice-read-code Inv-loop μ-loop
 shared-slice-read-code c = search needs
 
--- src/counts.rt:19:20
 cast-code : tie.Need-cast-code Inv-loop μ-loop
 cast-code c =
     let at-loop = c .before .before in
@@ -44,11 +36,9 @@ cast-code c =
     let label = start .pre .0 (start .args .i) (at-loop .loop .k) (start .pre .1) (omega arith) in
     omega (arith, label)
 
--- src/counts.rt:20:17
 mul-numbers : tie.Need-mul-numbers Inv-loop μ-loop
 mul-numbers c = search needs
 
--- src/counts.rt:20:17
 add-numbers : tie.Need-add-numbers Inv-loop μ-loop
 add-numbers c =
     let at-loop = c .before .before in
@@ -56,7 +46,6 @@ add-numbers c =
     let label = start .pre .0 (start .args .i) (at-loop .loop .k) (start .pre .1) (omega arith) in
     omega (arith, label)
 
--- src/counts.rt:20:9
 mul-numbers-2 : tie.Need-mul-numbers-2 Inv-loop μ-loop
 mul-numbers-2 c =
     let at-loop = c .before .before in
@@ -64,7 +53,6 @@ mul-numbers-2 c =
     let label = start .pre .0 (start .args .i) (at-loop .loop .k) (start .pre .1) (omega arith) in
     omega (arith, label)
 
--- src/counts.rt:20:9
 slice-read-numbers : tie.Need-slice-read-numbers Inv-loop μ-loop
 slice-read-numbers c =
     let at-loop = c .before .before .before in
@@ -72,7 +60,6 @@ slice-read-numbers c =
     let label = start .pre .0 (start .args .i) (at-loop .loop .k) (start .pre .1) (omega arith) in
     omega (arith, label, at-loop .loop .inv .2 .0)
 
--- src/counts.rt:20:9
 add-numbers-2 : tie.Need-add-numbers-2 Inv-loop μ-loop
 add-numbers-2 c =
     let at-loop = c .before .before .before in
@@ -81,7 +68,6 @@ add-numbers-2 c =
     let numbers = number-most (start .args .sheet .now) (start .args .i) (at-loop .loop .k) (at-loop .loop .numbers) (at-loop .loop .inv .2) (omega arith) label in
     omega (arith, numbers, start .pre .2)
 
--- src/counts.rt:20:9
 slice-write-numbers : tie.Need-slice-write-numbers Inv-loop μ-loop
 slice-write-numbers c =
     let at-loop = c .before .before .before in
@@ -89,15 +75,12 @@ slice-write-numbers c =
     let label = start .pre .0 (start .args .i) (at-loop .loop .k) (start .pre .1) (omega arith) in
     omega (arith, label, at-loop .loop .inv .2 .0)
 
--- src/counts.rt:21:9
 add-k : tie.Need-add-k Inv-loop μ-loop
 add-k c = search needs
 
--- src/counts.rt:18:5
 loop-less : tie.Need-loop-less Inv-loop μ-loop
 loop-less c = search needs
 
--- src/counts.rt:18:5
 loop-again : tie.Need-loop-again Inv-loop μ-loop
 loop-again c =
     let at-loop = c .before .before .before in
@@ -105,11 +88,9 @@ loop-again c =
     let label = start .pre .0 (start .args .i) (at-loop .loop .k) (start .pre .1) (omega arith) in
     (omega arith, at-loop .loop .inv .1, next-passed (start .args .sheet .now) (start .args .i) (at-loop .loop .k) (at-loop .loop .numbers) (at-loop .loop .inv .2) (omega arith) label)
 
--- src/counts.rt:13:1
 same-length : tie.Need-same-length Inv-loop μ-loop
 same-length c = let inv = c .before .loop .inv in omega (arith, inv .1, inv .2 .0)
 
--- src/counts.rt:13:1
 returns : tie.Need-returns Inv-loop μ-loop
 returns c =
     let at-loop = c .before in

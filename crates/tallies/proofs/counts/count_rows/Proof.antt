@@ -1,6 +1,6 @@
 -- The loop's invariant: the rows passed are counted. Assumes nothing.
-use Prim.Native.Nat.{ℕ, _+_, _-_, _*_, _/_, _≤_}
-use mathlib.Core.Path.{_≡_, refl, _∙_}
+use Prim.Native.Nat.{_-_, _/_, _≤_}
+use mathlib.Core.Path.{_≡_}
 use native.Mathlib.Omega.{arith}
 use borrow.Author.Needs.{needs}
 use lib.ListN.{length}
@@ -8,9 +8,6 @@ use Rattle.tallies.specs.Count.{Counted}
 use Rattle.tallies.proofs.CountLaws.{none-counted}
 use Rattle.tallies.proofs.counts.count_rows.Statement.{statement}
 use Rattle.tallies.proofs.counts.count_rows.Tie as tie
-use Rattle.tallies.proofs.counts.count_rows.Reads as reads
-use Rattle.tallies.proofs.counts.count_rows.Lts as lts
-use Rattle.tallies.proofs.counts.count_row.Reads as count-row-reads
 
 abbrev Inv-loop : tie.InvT-loop
 Inv-loop sheet n numbers₀ i₀ numbers i = (i ≤ n) × (Counted sheet i numbers)
@@ -18,34 +15,27 @@ Inv-loop sheet n numbers₀ i₀ numbers i = (i ≤ n) × (Counted sheet i numbe
 abbrev μ-loop : tie.MeasureT-loop
 μ-loop sheet n numbers₀ i₀ numbers i = n - i
 
--- src/counts.rt:33:5
 loop-holds : tie.Need-loop-holds Inv-loop μ-loop
 loop-holds c = (omega arith, none-counted (c .before .args .sheet .now))
 
--- src/counts.rt:34:29
 slice-aggregate-count-row : tie.Need-slice-aggregate-count-row Inv-loop μ-loop
 slice-aggregate-count-row c = search needs
 
--- src/counts.rt:34:9
 count-row-requires : tie.Need-count-row-requires Inv-loop μ-loop
 count-row-requires c κs =
     let at-loop = c .before .before in
     let start = at-loop .before .before in
     (start .pre .0, omega arith, omega (arith, start .pre .1), at-loop .loop .inv .1)
 
--- src/counts.rt:35:9
 add-i : tie.Need-add-i Inv-loop μ-loop
 add-i c = search needs
 
--- src/counts.rt:33:5
 loop-less : tie.Need-loop-less Inv-loop μ-loop
 loop-less c = search needs
 
--- src/counts.rt:33:5
 loop-again : tie.Need-loop-again Inv-loop μ-loop
 loop-again c = (omega arith, c .before .count-row .ensures)
 
--- src/counts.rt:26:1
 returns : tie.Need-returns Inv-loop μ-loop
 returns c =
     let inv = c .before .loop .inv in

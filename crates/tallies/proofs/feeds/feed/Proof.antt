@@ -1,5 +1,5 @@
 -- A refusal leaves box, tally and sheet; otherwise the box takes the bars in, and the rows that it wrote are counted. Assumes nothing.
-use Prim.Native.Nat.{ℕ, _+_, _*_, _/_, _≤_}
+use Prim.Native.Nat.{_*_, _≤_}
 use mathlib.Core.Path.{_≡_, ap, sym, _∙_}
 use native.Mathlib.Omega.{arith}
 use lib.ListN.{length, take}
@@ -8,7 +8,7 @@ use Rattle.measures.specs.Bar.{barsOf}
 use Rattle.measures.proofs.RunLaws.{length-bars}
 use Rattle.bar_box.specs.declared.boxes.Outcome.{Outcome}
 use Rattle.bar_box.specs.Sheet.{rowsOf}
-use Rattle.bar_box.specs.Box.{kept, sheetOf}
+use Rattle.bar_box.specs.Box.{kept}
 use Rattle.bar_box.proofs.FeedSteps.{fits}
 use Rattle.bar_box.proofs.SheetLaws.{length-rows}
 use Rattle.tallies.specs.Tally.{counted}
@@ -18,34 +18,22 @@ use Rattle.tallies.proofs.FeedLaws.{accepted-adds, accepted-plain, fed-
 use borrow.Author.Needs.{needs}
 use Rattle.tallies.proofs.feeds.feed.Statement.{statement}
 use Rattle.tallies.proofs.feeds.feed.Tie as tie
-use Rattle.tallies.proofs.feeds.feed.Reads as reads
-use Rattle.tallies.proofs.feeds.feed.Lts as lts
-use Rattle.bar_box.proofs.feed.Reads as feed-reads
-use Rattle.measures.proofs.count.Reads as windows-count-reads
-use Rattle.tallies.proofs.counts.count.Reads as counts-count-reads
-use Rattle.tallies.proofs.feeds.tally_verdict.Reads as tally-verdict-reads
 
--- src/feeds.rt:56:11
 tally-verdict-requires : tie.Need-tally-verdict-requires
 tally-verdict-requires c κs = search needs
 
--- src/feeds.rt:57:25
 enum-known-why : tie.Need-enum-known-why
 enum-known-why c = search needs
 
--- src/feeds.rt:63:48
 enum-told : tie.Need-enum-told
 enum-told c = search needs
 
--- src/feeds.rt:63:17
 feed-requires : tie.Need-feed-requires
 feed-requires c κs = search needs
 
--- src/feeds.rt:65:37
 count-requires : tie.Need-count-requires
 count-requires c κs = search needs
 
--- src/feeds.rt:65:25
 mul-bytes : tie.Need-mul-bytes
 mul-bytes c =
     let told = c .before .before .before .before .before .before in
@@ -57,7 +45,6 @@ mul-bytes c =
     let met = fits _ _ _ _ plain in
     omega (arith, c .count .ensures, length-bars (args .prices .now), met .few)
 
--- src/feeds.rt:69:48
 slice-reshare-prefix-count : tie.Need-slice-reshare-prefix-count
 slice-reshare-prefix-count c =
     let told = c .before .before .before .before .before .before in
@@ -69,7 +56,6 @@ slice-reshare-prefix-count c =
     let met = fits _ _ _ _ plain in
     omega (arith, c .count .ensures, length-bars (args .prices .now), met .room, c .before .before .before .before .feed .kept .1 .1 .0)
 
--- src/feeds.rt:69:48
 slice-aggregate-count : tie.Need-slice-aggregate-count
 slice-aggregate-count c =
     let told = c .before .before .before .before .before .before .before in
@@ -83,7 +69,6 @@ slice-aggregate-count c =
     let within : 36 * c .before .count .result ≤ length (fed .last .1 .1 .0) = omega (arith, c .before .count .ensures, length-bars (args .prices .now), met .room, fed .kept .1 .1 .0) in
     sym (length-take-le (36 * c .before .count .result) (fed .last .1 .1 .0) within)
 
--- src/feeds.rt:69:24
 count-requires-2 : tie.Need-count-requires-2
 count-requires-2 c κs =
     let told = c .before .before .before .before .before .before .before in
@@ -104,7 +89,6 @@ count-requires-2 c κs =
       rw written (omega (arith, size, length-bars (args .prices .now), met .few)),
     )
 
--- src/feeds.rt:51:1
 returns : tie.Need-returns
 unfolding talliedOf talliedSheet
 returns c =
@@ -112,11 +96,9 @@ returns c =
     let denied = sym (call .tally-verdict .ensures .0) ∙ c .before .why .given .1 in
     (simp denied, simp denied, call .tally-verdict .ensures .1)
 
--- src/feeds.rt:51:1
 same-length : tie.Need-same-length
 same-length c = search needs
 
--- src/feeds.rt:51:1
 returns-2 : tie.Need-returns-2
 unfolding talliedSheet
 returns-2 c =

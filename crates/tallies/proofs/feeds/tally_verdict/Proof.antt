@@ -1,6 +1,6 @@
 -- The tests are those of the definition, in its order. Assumes nothing.
 use Prim.Native.Nat.{ℕ, _*_, _≤_}
-use mathlib.Core.Path.{_≡_, sym, _∙_}
+use mathlib.Core.Path.{sym, _∙_}
 use native.Mathlib.Omega.{arith}
 use borrow.Author.Tests.{lt-ltb, le-ltb, not-true, not-false}
 use Rattle.recognisers.specs.Number.{rowBytes, mostBars}
@@ -9,10 +9,6 @@ use Rattle.tallies.proofs.FeedLaws.{denied-early, accepted-early}
 use borrow.Author.Needs.{needs}
 use Rattle.tallies.proofs.feeds.tally_verdict.Statement.{statement}
 use Rattle.tallies.proofs.feeds.tally_verdict.Tie as tie
-use Rattle.tallies.proofs.feeds.tally_verdict.Reads as reads
-use Rattle.tallies.proofs.feeds.tally_verdict.Lts as lts
-use Rattle.bar_box.proofs.feeds.feed_verdict.Reads as feed-verdict-reads
-use Rattle.tallies.proofs.table.adds_up.Reads as adds-up-reads
 
 -- the sheet that the code asks of
 abbrev most : ℕ
@@ -24,19 +20,15 @@ enough = omega arith
 adds-up-requires : tie.Need-adds-up-requires
 adds-up-requires c κs = search needs
 
--- src/feeds.rt:36:11
 feed-verdict-requires : tie.Need-feed-verdict-requires
 feed-verdict-requires c κs = search needs
 
--- src/feeds.rt:37:25
 enum-known-why : tie.Need-enum-known-why
 enum-known-why c = search needs
 
--- src/feeds.rt:39:16
 enum-told : tie.Need-enum-told
 enum-told c = search needs
 
--- src/feeds.rt:41:31
 mul-if2 : tie.Need-mul-if2
 mul-if2 c =
     let told = c .before in
@@ -44,7 +36,6 @@ mul-if2 c =
     let f = fits _ _ _ _ (sym (call .feed-verdict .ensures) ∙ told .enum-told .given .1) in
     omega (arith, f .few)
 
--- src/feeds.rt:25:1
 returns : tie.Need-returns
 returns c =
     let call = c .before .before .before in
@@ -52,7 +43,6 @@ returns c =
     let denied = sym (call .feed-verdict .ensures) ∙ c .before .why .given .1 in
     (sym (denied-early (args .t) (args .n) (args .tally) (args .prices) most enough (args .sheet) _ denied), call .before .adds-up .ensures .1)
 
--- src/feeds.rt:25:1
 returns-2 : tie.Need-returns-2
 returns-2 c =
     let told = c .before in
@@ -64,7 +54,6 @@ returns-2 c =
     let wrong = sym (sums .ensures .0) ∙ not-true (sums .result) (c .if1 .taken) in
     (sym (early ∙ rw wrong), sums .ensures .1)
 
--- src/feeds.rt:25:1
 returns-3 : tie.Need-returns-3
 returns-3 c =
     let told = c .before .before in
@@ -76,7 +65,6 @@ returns-3 c =
     let right = sym (sums .ensures .0) ∙ not-false (sums .result) (c .before .if1 .left) in
     (sym (early ∙ rw (right, lt-ltb _ _ (c .if2 .taken))), sums .ensures .1)
 
--- src/feeds.rt:25:1
 returns-4 : tie.Need-returns-4
 returns-4 c =
     let told = c .before .before in

@@ -3,10 +3,7 @@ use mathlib.Core.Path.{refl}
 use Rattle.tallies.specs.Tally.{freshTally}
 use Rattle.tallies.proofs.table.fresh.Statement.{statement}
 use Rattle.tallies.proofs.table.fresh.Tie as tie
-use Rattle.tallies.proofs.table.fresh.Reads as reads
-use Rattle.tallies.proofs.table.fresh.Lts as lts
 
--- src/table.rt:11:1
 returns : tie.Need-returns
 unfolding freshTally
 returns c = refl

@@ -4,22 +4,16 @@ use lib.ListN.{List·getD-eq-default}
 use borrow.Author.Needs.{needs}
 use Rattle.tally_feeds.proofs.numbers.number_at.Statement.{statement}
 use Rattle.tally_feeds.proofs.numbers.number_at.Tie as tie
-use Rattle.tally_feeds.proofs.numbers.number_at.Reads as reads
-use Rattle.tally_feeds.proofs.numbers.number_at.Lts as lts
 
--- src/numbers.rt:16:9
 mul-result : tie.Need-mul-result
 mul-result c = search needs
 
--- src/numbers.rt:16:9
 shared-slice-read-result : tie.Need-shared-slice-read-result
 shared-slice-read-result c = search needs
 
--- src/numbers.rt:12:1
 returns : tie.Need-returns
 returns c = search needs
 
--- src/numbers.rt:12:1
 returns-2 : tie.Need-returns-2
 returns-2 c = sym (List·getD-eq-default (c .before .args .numbers .now) 0 (c .if1 .left))
 

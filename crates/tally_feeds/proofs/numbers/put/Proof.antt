@@ -1,10 +1,9 @@
 use borrow.Author.Needs.{needs}
 -- The loop's invariant: the numbers passed are written. Assumes nothing.
-use Prim.Native.Nat.{ℕ, _+_, _-_, _*_, _/_, _%_, _≤_, _<_}
+use Prim.Native.Nat.{_-_, _≤_, _<_}
 use mathlib.Core.Path.{_≡_, refl, sym, _∙_}
 use native.Mathlib.Omega.{arith}
-use lib.ListN.{length, getD, take, length-set}
-use lib.Seq.{take-all}
+use lib.ListN.{length, take, length-set}
 use Rattle.bar_box.specs.Sheet.{overlay}
 use Rattle.bar_box.proofs.Overlay.{overlay-none, overlay-copy}
 use Rattle.bar_box.proofs.BoxLaws.{take-same}
@@ -12,10 +11,6 @@ use Rattle.tally_feeds.specs.Numbers.{numbersOf}
 use Rattle.tally_feeds.proofs.NumberLaws.{length-numbers, number-of}
 use Rattle.tally_feeds.proofs.numbers.put.Statement.{statement}
 use Rattle.tally_feeds.proofs.numbers.put.Tie as tie
-use Rattle.tally_feeds.proofs.numbers.put.Reads as reads
-use Rattle.tally_feeds.proofs.numbers.put.Lts as lts
-use Rattle.measures.proofs.least.Reads as least-reads
-use Rattle.tally_feeds.proofs.numbers.cell.Reads as cell-reads
 
 abbrev Inv-loop : tie.InvT-loop
 Inv-loop tally numbers₀ n i₀ numbers i = (i ≤ n) × (length numbers ≡ length numbers₀) × (numbers ≡ overlay numbers₀ 0 (take i (numbersOf tally)))
@@ -23,37 +18,29 @@ Inv-loop tally numbers₀ n i₀ numbers i = (i ≤ n) × (length numbers ≡ le
 abbrev μ-loop : tie.MeasureT-loop
 μ-loop tally numbers₀ n i₀ numbers i = n - i
 
--- src/numbers.rt:63:9
 least-requires : tie.Need-least-requires Inv-loop μ-loop
 least-requires c κs = tt
 
--- src/numbers.rt:65:5
 loop-holds : tie.Need-loop-holds Inv-loop μ-loop
 loop-holds c = (omega arith, refl, sym (overlay-none (c .before .before .args .numbers .now) 0))
 
--- src/numbers.rt:66:22
 cell-requires : tie.Need-cell-requires Inv-loop μ-loop
 cell-requires c κs =
     let at-loop = c .before in
     omega (arith, at-loop .before .least .ensures)
 
--- src/numbers.rt:66:9
 mul-numbers : tie.Need-mul-numbers Inv-loop μ-loop
 mul-numbers c = search needs
 
--- src/numbers.rt:66:9
 slice-write-numbers : tie.Need-slice-write-numbers Inv-loop μ-loop
 slice-write-numbers c = search needs
 
--- src/numbers.rt:67:9
 add-i : tie.Need-add-i Inv-loop μ-loop
 add-i c = search needs
 
--- src/numbers.rt:65:5
 loop-less : tie.Need-loop-less Inv-loop μ-loop
 loop-less c = search needs
 
--- src/numbers.rt:65:5
 loop-again : tie.Need-loop-again Inv-loop μ-loop
 loop-again c =
     let at-loop = c .before .before in
@@ -65,11 +52,9 @@ loop-again c =
     let size = length-numbers tally in
     (omega arith, rw length-set (at-loop .loop .inv .1), rw (at-loop .loop .inv .2, c .cell .ensures, ← number-of tally i most) (overlay-copy (start .args .numbers .now) 0 (numbersOf tally) i i 0 (omega arith) (omega arith) room))
 
--- src/numbers.rt:60:1
 same-length : tie.Need-same-length Inv-loop μ-loop
 same-length c = search needs
 
--- src/numbers.rt:60:1
 returns : tie.Need-returns Inv-loop μ-loop
 returns c =
     let at-loop = c .before in

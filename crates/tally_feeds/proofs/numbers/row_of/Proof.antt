@@ -2,7 +2,7 @@ use borrow.Author.Needs.{needs}
 -- The loop's invariant: the counts passed have their numbers. Assumes nothing.
 use Prim.Native.Nat.{ℕ, _+_, _-_, _*_, _≤_, _<_}
 use mathlib.Core.List.{append-nil}
-use mathlib.Core.Path.{_≡_, refl, ap, _∙_}
+use mathlib.Core.Path.{_≡_, refl, _∙_}
 use native.Mathlib.Nat.{zero-add}
 use native.Mathlib.Omega.{arith}
 use lib.ListN.{length, getD, replicate, length-replicate, getD-replicate, drop-of-length-le}
@@ -11,9 +11,6 @@ use Rattle.tallies.specs.Tally.{byPlace}
 use Rattle.tallies.proofs.PlaceLaws.{changed, changed-next}
 use Rattle.tally_feeds.proofs.numbers.row_of.Statement.{statement}
 use Rattle.tally_feeds.proofs.numbers.row_of.Tie as tie
-use Rattle.tally_feeds.proofs.numbers.row_of.Reads as reads
-use Rattle.tally_feeds.proofs.numbers.row_of.Lts as lts
-use Rattle.tally_feeds.proofs.numbers.number_at.Reads as number-at-reads
 
 abbrev Inv-loop : tie.InvT-loop
 Inv-loop numbers k counts₀ c₀ counts c = (c ≤ 38) × (counts ≡ changed (λ i count. count + getD numbers (38 * k + i) 0) c (replicate 38 0))
@@ -21,40 +18,31 @@ Inv-loop numbers k counts₀ c₀ counts c = (c ≤ 38) × (counts ≡ changed (
 abbrev μ-loop : tie.MeasureT-loop
 μ-loop numbers k counts₀ c₀ counts c = 38 - c
 
--- src/numbers.rt:29:5
 loop-holds : tie.Need-loop-holds Inv-loop μ-loop
 unfolding byPlace
 loop-holds c = (omega arith, refl)
 
--- src/numbers.rt:30:40
 mul-number-at : tie.Need-mul-number-at Inv-loop μ-loop
 mul-number-at c = search needs
 
--- src/numbers.rt:30:40
 add-number-at : tie.Need-add-number-at Inv-loop μ-loop
 add-number-at c = search needs
 
--- src/numbers.rt:30:21
 number-at-requires : tie.Need-number-at-requires Inv-loop μ-loop
 number-at-requires c κs = tt
 
--- src/numbers.rt:30:9
 mul-counts : tie.Need-mul-counts Inv-loop μ-loop
 mul-counts c = search needs
 
--- src/numbers.rt:30:9
 array-write-counts : tie.Need-array-write-counts Inv-loop μ-loop
 array-write-counts c = search needs
 
--- src/numbers.rt:31:9
 add-c : tie.Need-add-c Inv-loop μ-loop
 add-c c = search needs
 
--- src/numbers.rt:29:5
 loop-less : tie.Need-loop-less Inv-loop μ-loop
 loop-less c = search needs
 
--- src/numbers.rt:29:5
 loop-again : tie.Need-loop-again Inv-loop μ-loop
 loop-again c =
     let at-loop = c .before .before in
@@ -68,7 +56,6 @@ loop-again c =
     let number : c .number-at .result ≡ change i (getD zeros i 0) = c .number-at .ensures ∙ rw (getD-replicate {A = ℕ} 38 i 0 0 (omega arith), zero-add) in
     (omega arith, rw (at-loop .loop .inv .1, number) (changed-next change zeros i 0 inside))
 
--- src/numbers.rt:23:1
 returns : tie.Need-returns Inv-loop μ-loop
 returns c =
     let inv = c .before .loop .inv in
