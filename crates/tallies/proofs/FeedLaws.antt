@@ -2,7 +2,7 @@
 use Prim.Native.Nat.{ℕ, _+_, _*_, _/_, _%_, _≤_}
 use mathlib.Core.Bool.{Bool, true, false, cond, not}
 use mathlib.Core.List.{List}
-use mathlib.Core.Path.{_≡_, refl, ap, sym, _∙_}
+use mathlib.Core.Path.{_≡_, refl, sym, _∙_}
 use native.Mathlib.Omega.{arith}
 use borrow.Author.Tests.{ltb-false, le-ltb, eq-eqb}
 use lib.Dec.{ltb, eqb}
@@ -27,9 +27,6 @@ use Rattle.tallies.specs.Tally.{addsUp, counted}
 use Rattle.tallies.specs.Feed.{tallyVerdict, verdictWith, talliedOf}
 
 -- ---- the verdict
-
-true-false : {P : Type 0} → true ≡ false → P
-true-false e = absurd (let z : _≡_ {A = ℕ} 0 1 = ap (λ (t : Bool). cond t 0 1) e in omega arith)
 
 -- an accepted feed is no refused one
 accepted-denied : {P : Type 0} (r : Refusal) → Accepted ≡ Denied r → P
