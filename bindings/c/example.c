@@ -64,7 +64,12 @@ static void print_refusals(void)
     expect("recogniser 18", label(18, 1, &one, 1), JCC_REFUSED + JCC_REFUSAL_RECOGNISER);
     expect("offset 0", label(1, 0, &one, 1), JCC_REFUSED + JCC_REFUSAL_OFFSET);
     expect("a NaN threshold",
-           typed(1, 1, (double)NAN, 500, 50, 100, 50, 500, 2, 300, 2.0, 500, 100, 10, 10, bytes, 32),
+           typed(1, 1, (double)NAN, 500, 50, 100, 50, 500, 2, 300, 2.0, 500, 100, 100, 100, bytes,
+                 32),
+           JCC_REFUSED + JCC_REFUSAL_THRESHOLD);
+    expect("th13 above its limit",
+           typed(1, 1, 2.0, 500, 50, 100, 50, 500, 2, 300, 2.0, 500, 100, JCC_MOST_TENTHS + 1, 100,
+                 bytes, 32),
            JCC_REFUSED + JCC_REFUSAL_THRESHOLD);
     expect("31 bytes", typed(1, 1, JCC_STANDARD, bytes, 31), JCC_REFUSED + JCC_REFUSAL_BYTES);
     expect("1,000,001 bars", label(1, 1, many, too_many), JCC_REFUSED + JCC_REFUSAL_HISTORY);

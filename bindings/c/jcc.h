@@ -30,8 +30,12 @@ enum jcc_refusal {
     JCC_REFUSAL_HISTORY = 5     /* there are more than 1,000,000 bars */
 };
 
+/* The greatest of the whole thresholds; of th13 and th14, which count tenths. */
+#define JCC_MOST_WHOLE 1000000
+#define JCC_MOST_TENTHS 10000000
+
 /* The standard thresholds, as the arguments th0 to th14 of jcc_label. */
-#define JCC_STANDARD 2.0, 500, 50, 100, 50, 500, 2, 300, 2.0, 500, 100, 10, 10
+#define JCC_STANDARD 2.0, 500, 50, 100, 50, 500, 2, 300, 2.0, 500, 100, 100, 100
 
 /* The labels of one bar of a history.
  *
@@ -39,7 +43,10 @@ enum jcc_refusal {
  *   offset      which bar is judged: 1 is the newest, 2 the one before; an offset beyond the history
  *               gives the recogniser's short pair
  *   th0 .. th14 the thresholds; the digits of a name are the recogniser's number. th0 and th8 go
- *               from 0.0 to 10,000.0, the others to 1,000,000. All are tried in every call.
+ *               from 0.0 to 10,000.0, the others to JCC_MOST_WHOLE, but th13 and th14, which count
+ *               tenths, to JCC_MOST_TENTHS: at 105 a doji's height is more than 10.5 times its body.
+ *               Whoever passes 10 for th13 or th14 as before gets a tenth of what he means.
+ *               All are tried in every call.
  *   bars, len   the history, oldest bar first: len bytes, 32 to a bar, which are the bits of open,
  *               close, high and low as double, each little-endian. Any double is allowed, NaN and
  *               infinities too. The bytes need no alignment. The pointer is not null, even if len

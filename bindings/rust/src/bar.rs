@@ -38,8 +38,12 @@ impl Bar {
 
 /// The thirteen thresholds. The digits at the end of a name are the recogniser's number.
 ///
-/// The two `f64` go from 0.0 to 10,000.0, the whole numbers to 1,000,000; a call with others is
-/// refused by [`Refusal::Threshold`](crate::Refusal::Threshold).
+/// The two `f64` go from 0.0 to 10,000.0, the whole numbers to
+/// [`MOST_WHOLE`](Thresholds::MOST_WHOLE), but `th13` and `th14`, which count tenths, to
+/// [`MOST_TENTHS`](Thresholds::MOST_TENTHS); a call with others is refused by
+/// [`Refusal::Threshold`](crate::Refusal::Threshold).
+///
+/// Whoever passes 10 for `th13` or `th14` as before gets a tenth of what he means.
 #[derive(Clone, Copy, Debug, PartialEq)]
 pub struct Thresholds {
     /// `san_xing_xian`: the lower shadow is longer than so many bodies.
@@ -64,13 +68,19 @@ pub struct Thresholds {
     pub zf8: u32,
     /// `ping_tou`: the two prices differ by less than so many hundredths of a percent.
     pub th10: u32,
-    /// `szx`: a doji's height is more than so many times its body.
+    /// `szx`: a doji's height is more than so many tenths of its body: at 105, 10.5 times it.
     pub th13: u32,
-    /// `san_szx`: a doji's height is more than so many times its body.
+    /// `san_szx`: the same for each of its dojis.
     pub th14: u32,
 }
 
 impl Thresholds {
+    /// The greatest of the whole numbers that count no tenths.
+    pub const MOST_WHOLE: u32 = 1_000_000;
+
+    /// The greatest `th13` and `th14`.
+    pub const MOST_TENTHS: u32 = 10_000_000;
+
     /// The standard set.
     pub const STANDARD: Thresholds = Thresholds {
         th0: 2.0,
@@ -84,8 +94,8 @@ impl Thresholds {
         th8: 2.0,
         zf8: 500,
         th10: 100,
-        th13: 10,
-        th14: 10,
+        th13: 100,
+        th14: 100,
     };
 }
 

@@ -1,6 +1,6 @@
 //! The scope's small histories through the library.
 
-use sodsundial_jcc::{label, label_bytes, Bar, Recogniser, Thresholds};
+use sodsundial_jcc::{label, label_bytes, Bar, Label, Recogniser, Thresholds};
 
 /// Recogniser, bars as open/close/high/low (`3*` repeats a bar), pair.
 const ROWS: [(u32, &str, &str); 12] = [
@@ -142,4 +142,40 @@ fn a_threshold_that_is_cut() {
     let history = [Bar::new(100.0, 200.0, 200.0, 71.5)];
     let pair = label(Recogniser::SanXingXian, 1, &thresholds, &history).expect("a pair");
     assert_eq!(pair.to_string(), "满足/其他");
+}
+
+/// Whether `szx` with a `th13` names a bar whose height is so many times its body, after ten flat
+/// ones.
+fn is_doji(th13: u32, height: f64) -> bool {
+    let thresholds = Thresholds {
+        th13,
+        ..Thresholds::STANDARD
+    };
+    let mut history = vec![Bar::new(1.0, 1.0, 1.0, 1.0); 10];
+    history.push(Bar::new(0.0, 1.0, height, 0.0));
+    let pair = label(Recogniser::Szx, 1, &thresholds, &history);
+    pair.expect("a pair").v1 != Label::Other
+}
+
+/// Ten is too coarse and eleven too strict: `th13` and `th14` count tenths.
+#[test]
+fn tenths_of_a_doji() {
+    let most = Thresholds::MOST_TENTHS;
+    for (th13, height, expected) in [
+        (100, 10.0, false),
+        (100, 10.0_f64 + 2e-15, true),
+        (105, 10.4, false),
+        (105, 10.5, false),
+        (105, 10.6, true),
+        (110, 10.6, false),
+        // 10, as it was passed before, is now one.
+        (10, 1.0, false),
+        (10, 1.5, true),
+        (1, 0.1, false),
+        (1, 0.2, true),
+        (most, 1e6, false),
+        (most - 1, 1e6, true),
+    ] {
+        assert_eq!(is_doji(th13, height), expected, "{height} at {th13}");
+    }
 }

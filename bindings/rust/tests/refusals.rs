@@ -33,6 +33,9 @@ fn with_real(place: usize, value: f64) -> Thresholds {
     t
 }
 
+/// From this place on the whole numbers count tenths.
+const TENTHS_FROM: usize = 9;
+
 fn with_whole(place: usize, value: u32) -> Thresholds {
     let mut t = STANDARD;
     *[
@@ -73,10 +76,15 @@ fn thresholds() {
             }
         }
         for place in 0..11 {
-            for value in [0, 1, 1_000_000] {
+            let most = if place < TENTHS_FROM {
+                Thresholds::MOST_WHOLE
+            } else {
+                Thresholds::MOST_TENTHS
+            };
+            for value in [0, 1, most - 1, most] {
                 assert!(given(with_whole(place, value)).is_ok());
             }
-            for value in [1_000_001, 1 << 31, u32::MAX] {
+            for value in [most + 1, 1 << 31, u32::MAX] {
                 assert_eq!(given(with_whole(place, value)), Err(Refusal::Threshold));
             }
         }

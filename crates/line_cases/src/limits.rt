@@ -13,7 +13,7 @@ use recognisers::Thresholds;
 fn thresholds(th14_above: bool, th0_nan: bool) -> Thresholds {
     let mut t = Thresholds::standard();
     if th14_above {
-        t.th14 = 1000001;
+        t.th14 = 10000001;
     }
     if th0_nan {
         t.th0 = price::not_a_number();
@@ -128,7 +128,7 @@ pub fn write() {
     write_count(999999);
     write_count(1000000);
     write_count(1000001);
-    write_bad(b"th14 1000001", true, false);
+    write_bad(b"th14 10000001", true, false);
     write_bad(b"th0 NaN", false, true);
     write_rooms();
 }

@@ -111,7 +111,7 @@ fn write_short(name: &[u8], b: BarBox, tally: [TallyRow; 18], prices: &[f64]) {
 fn write_order(b: BarBox, tally: [TallyRow; 18]) {
     let wrong = with_more(tally, 17, 37, 1);
     let mut t = Thresholds::standard();
-    t.th14 = 1000001;
+    t.th14 = 10000001;
     let mut bad = b;
     bad.thresholds = t;
     write_short(

@@ -5,7 +5,7 @@ use mathlib.Core.List.{List, [], _∷_}
 use lib.ListN.{getD}
 use lib.Ieee.{Float, binary64, nan, sub, div, eq, ne, lt}
 use Rattle.prices.specs.declared.bars.Bar.{Bar}
-use Rattle.prices.specs.Price.{maxOf, minOf, absOf}
+use Rattle.prices.specs.Price.{ten, maxOf, minOf, absOf}
 
 -- ---- a bar is a record of four prices: open, close, high, low
 
@@ -42,8 +42,12 @@ upperOf b = sub binary64 (b .high) (maxOf (b .«open») (b .close))
 unfoldable pub lowerOf : Bar → Float
 lowerOf b = sub binary64 (minOf (b .«open») (b .close)) (b .low)
 
--- doji: close = open and high ≠ low; or close ≠ open and (high − low) ÷ body > th
-unfoldable pub dojiOf : Float → Bar → Bool
-dojiOf th b =
+-- 01's doji: close = open and high ≠ low; or close ≠ open and (high − low) ÷ body > th
+unfoldable pub dojiAbove : Float → Bar → Bool
+dojiAbove th b =
     eq (b .close) (b .«open») && ne (b .high) (b .low)
     || ne (b .close) (b .«open») && lt th (div binary64 (sub binary64 (b .high) (b .low)) (bodyOf b))
+
+-- doji (02, P4): th counts tenths. The test divides th by 10.0 once and compares as before
+unfoldable pub dojiOf : Float → Bar → Bool
+dojiOf th = dojiAbove (div binary64 th ten)

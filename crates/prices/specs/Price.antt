@@ -11,6 +11,10 @@ zero = ofBits binary64 0
 abbrev pub aQuarter : Float
 aQuarter = ofBits binary64 0x3fd0_0000_0000_0000
 
+-- 10.0
+abbrev pub ten : Float
+ten = ofBits binary64 0x4024_0000_0000_0000
+
 -- max(a, b): the other one if one is NaN, a if both are; b if b > a; else a
 unfoldable pub maxOf : Float → Float → Float
 maxOf a b = cond (isNan a && not (isNan b) || lt a b) b a

@@ -37,12 +37,15 @@ gateEnd = 3
 abbrev pub gateAbove : ℕ
 gateAbove = 23
 
--- the most bars of a history, and the greatest threshold that is whole
+-- the most bars of a history, and the greatest threshold that is whole, in units and in tenths
 abbrev pub mostBars : ℕ
 mostBars = 1000000
 
 abbrev pub mostWhole : ℕ
 mostWhole = 1000000
+
+abbrev pub mostTenths : ℕ
+mostTenths = 10000000
 
 -- the places of a box, the farthest offset of a look, the longest text line
 abbrev pub places : ℕ

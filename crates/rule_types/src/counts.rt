@@ -17,10 +17,12 @@ pub const GATE_END: usize = 3;
 
 pub const GATE_ABOVE: usize = 23;
 
-// The most bars of a history, and the greatest threshold that is whole.
+// The most bars of a history, and the greatest threshold that is whole, in units and in tenths.
 pub const MOST_BARS: usize = 1000000;
 
 pub const MOST_WHOLE: u32 = 1000000;
+
+pub const MOST_TENTHS: u32 = 10000000;
 
 // A sheet's row: two codes for each recogniser.
 pub const ROW_BYTES: usize = 36;

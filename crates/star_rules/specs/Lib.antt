@@ -1,1 +1,2 @@
 pub mod StarRule
+pub mod SameDojis

@@ -35,7 +35,7 @@ xingXian th b1 b2 b3 =
     pairOf (cond (morningOf th b1 b2 b3) MorningStar (cond (eveningOf th b1 b2 b3) EveningStar Other))
     (cond (eq (b2 .close) (b2 .«open»)) MiddleDoji Any)
 
--- ---- 13: szx
+-- ---- 13: szx; its th, and that of 14, counts tenths (02, P4)
 
 unfoldable pub dojiKind : Bar → Bar → Label
 dojiKind b1 b2 =
@@ -46,16 +46,23 @@ dojiKind b1 b2 =
 unfoldable pub northernOf : Bar → Bool
 northernOf b = lt (b .«open») (b .close) && lt (mul binary64 (add binary64 (upperOf b) (lowerOf b)) three) (bodyOf b)
 
+-- the pair, by the test of a doji
+abbrev pub szxBy : (Bar → Bool) → Bar → Bar → Pair
+szxBy isDoji b1 b2 = pairOf (cond (isDoji b1) (dojiKind b1 b2) Other) (cond (northernOf b2) Northern Any)
+
 unfoldable pub szx : ℕ → Bar → Bar → Pair
-szx th b1 b2 = pairOf (cond (dojiOf (wholeOf th) b1) (dojiKind b1 b2) Other) (cond (northernOf b2) Northern Any)
+szx th = szxBy (dojiOf (wholeOf th))
 
 -- ---- 14: san_szx
 
 -- how many of the bars are doji
-unfoldable pub dojiCount : Float → List Bar → ℕ
-dojiCount th [] = 0
-dojiCount th (b ∷ bars) = cond (dojiOf th b) 1 0 + dojiCount th bars
+unfoldable pub dojiCount : (Bar → Bool) → List Bar → ℕ
+dojiCount isDoji [] = 0
+dojiCount isDoji (b ∷ bars) = cond (isDoji b) 1 0 + dojiCount isDoji bars
 
--- at least three of the newest five
+-- the pair, by the test of a doji: at least three of the newest five
+abbrev pub sanSzxBy : (Bar → Bool) → Bar → Bar → Bar → Bar → Bar → Pair
+sanSzxBy isDoji b1 b2 b3 b4 b5 = pairOf (cond (leb 3 (dojiCount isDoji (b5 ∷ b4 ∷ b3 ∷ b2 ∷ b1 ∷ []))) Met Other) Any
+
 unfoldable pub sanSzx : ℕ → Bar → Bar → Bar → Bar → Bar → Pair
-sanSzx th b1 b2 b3 b4 b5 = pairOf (cond (leb 3 (dojiCount (wholeOf th) (b5 ∷ b4 ∷ b3 ∷ b2 ∷ b1 ∷ []))) Met Other) Any
+sanSzx th = sanSzxBy (dojiOf (wholeOf th))

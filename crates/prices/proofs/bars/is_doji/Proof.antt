@@ -1,10 +1,10 @@
 -- The code is the definition.
-use Rattle.prices.specs.Bar.{dojiOf}
+use Rattle.prices.specs.Bar.{dojiAbove, dojiOf}
 use Rattle.prices.proofs.bars.is_doji.Statement.{statement}
 use Rattle.prices.proofs.bars.is_doji.Tie as tie
 
 returns : tie.Need-returns
-unfolding dojiOf
+unfolding dojiAbove dojiOf
 returns c =
     simp (
     c .body .ensures)
