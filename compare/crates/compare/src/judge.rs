@@ -1,39 +1,47 @@
-//! One call three ways: the export, the plain port and the repository.
+//! One call three ways: the export, the plain port and the repository, where it has a say.
 
 use crate::tally::Tally;
+use crate::work;
 use inputs::hostile;
 use inputs::known::Known;
 use inputs::rng::Rng;
 use inputs::{Case, report};
 use jcc_types::{Answer, BAR_BYTES, Bar, REFUSED, Thresholds};
-use oracle::Oracle;
-use oracle::corner::Corner;
+use oracle::{Oracle, Verdict};
 use std::fmt::Write;
 use std::iter;
 
 /// A difference, with all that is needed to see it again.
 pub struct Difference(pub String);
 
-/// The three answers to one call.
+impl Difference {
+    fn seen_in(self, family: usize) -> Difference {
+        let name = work::family_names().nth(family).unwrap_or("none");
+        Difference(format!("family {name}\n{}", self.0))
+    }
+}
+
+/// The answers to one call; the repository has not always one.
 struct Answers {
     ours: u32,
     port: u32,
-    repository: u32,
-    corner: Option<Corner>,
+    repository: Verdict,
 }
 
 impl Answers {
-    /// In a corner the repository has no say.
     fn differ(&self) -> bool {
-        self.ours != self.port || (self.corner.is_none() && self.port != self.repository)
+        let repository = self.repository.answer();
+        self.ours != self.port || repository.is_some_and(|answer| answer != self.port)
     }
 
-    fn named(&self) -> [(&'static str, u32); 3] {
-        [
-            ("jcc_label", self.ours),
-            ("plain port", self.port),
-            ("repository", self.repository),
-        ]
+    fn named(&self) -> Vec<(&'static str, u32)> {
+        let mut answers = vec![("jcc_label", self.ours), ("plain port", self.port)];
+        match self.repository {
+            Verdict::Answer(answer) => answers.push(("repository", answer)),
+            Verdict::Open(_, answer) => answers.push(("repository, in a corner", answer)),
+            Verdict::NoAnswer => {}
+        }
+        answers
     }
 }
 
@@ -83,14 +91,15 @@ impl Judge {
     ) -> Result<(), Difference> {
         let answers = self.answers(k, offset, case);
         if answers.differ() {
-            return Err(self.smallest(k, offset, case));
+            return Err(self.smallest(k, offset, case).seen_in(family));
         }
-        match answers.corner {
-            None => self.tally.count(family, k, answers.repository),
-            Some(corner) => {
-                let differs = answers.repository != answers.port;
+        match answers.repository {
+            Verdict::Answer(answer) => self.tally.count(family, k, answer),
+            Verdict::Open(corner, answer) => {
+                let differs = answer != answers.port;
                 self.tally.count_corner(family, k, corner, differs);
             }
+            Verdict::NoAnswer => self.tally.count_between(family, k),
         }
         Ok(())
     }
@@ -101,8 +110,7 @@ impl Judge {
         Answers {
             ours: export::label(k as u32, offset, t, self.bytes.slice()),
             port: port::label(k, offset, t, &case.bars).number(),
-            repository: self.oracle.label(k, offset),
-            corner: Corner::of(k, offset, &case.bars),
+            repository: self.oracle.verdict(k, offset),
         }
     }
 
@@ -156,7 +164,8 @@ impl Judge {
                 let call = |bytes| export::label(*k as u32, *offset, &case.thresholds, bytes);
                 let answers = [("quiet", call(&quiet)), ("signalling", call(&loud))];
                 if answers[0].1 != answers[1].1 {
-                    return Err(difference(*k as u32, *offset, case, &answers));
+                    let found = difference(*k as u32, *offset, case, &answers);
+                    return Err(found.seen_in(family));
                 }
                 self.tally.count_only(family, *k);
             }
@@ -191,7 +200,7 @@ impl Judge {
             let answers = [("jcc_label", ours), ("01", expected)];
             let Difference(mut text) = difference(recogniser, offset, &case, &answers);
             writeln!(text, "over {} bytes of bars", bytes.len()).expect("text grows");
-            return Err(Difference(text));
+            return Err(Difference(text).seen_in(family));
         }
         self.tally.count_only(family, recogniser as usize);
         Ok(())
@@ -208,10 +217,10 @@ impl Judge {
         let t = &case.thresholds;
         let port = port::label(known.recogniser, known.offset, t, &case.bars).number();
         if port != known.pair.number() {
-            let answers = [("all three", port), ("printed", known.pair.number())];
+            let answers = [("answered", port), ("printed", known.pair.number())];
             let Difference(text) =
                 difference(known.recogniser as u32, known.offset, &case, &answers);
-            return Err(Difference(format!("{}\n{text}", known.name)));
+            return Err(Difference(format!("{}\n{text}", known.name)).seen_in(family));
         }
         if let Some(printed) = known.repository {
             let repository = self.oracle.label(known.recogniser, known.offset);

@@ -1,5 +1,5 @@
 //! Compares the export `jcc_label` with the repository's own functions, and both with the plain
-//! port. Stops at the first difference outside 01's two corners.
+//! port, which judges alone where the repository has no say. Stops at the first difference.
 
 mod judge;
 mod options;

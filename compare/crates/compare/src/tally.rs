@@ -2,6 +2,7 @@
 
 use crate::work;
 use inputs::pairs::possible;
+use inputs::tenths;
 use jcc_types::{LABELS, NAMES, RECOGNISERS};
 use oracle::corner::Corner;
 
@@ -15,6 +16,8 @@ pub struct Tally {
     repository: [u64; RECOGNISERS],
     /// Calls in each corner, and how many of them the repository answers otherwise than 01.
     corners: [[u64; 2]; Corner::ALL.len()],
+    /// Calls of 13 and 14 between multiples of ten, by recogniser.
+    between: [u64; RECOGNISERS],
     /// The repository's pairs by recogniser, at v1 × 38 + v2.
     pairs: Vec<Vec<u64>>,
 }
@@ -25,6 +28,7 @@ impl Tally {
             calls: vec![[0; COLUMNS]; work::family_names().count()],
             repository: [0; RECOGNISERS],
             corners: [[0; 2]; Corner::ALL.len()],
+            between: [0; RECOGNISERS],
             pairs: vec![vec![0; LABELS.len() * LABELS.len()]; RECOGNISERS],
         }
     }
@@ -42,6 +46,12 @@ impl Tally {
         self.corners[corner as usize][1] += u64::from(differs);
     }
 
+    /// A call with a threshold that is no multiple of ten: the plain port alone judged it.
+    pub fn count_between(&mut self, family: usize, k: usize) {
+        self.count_only(family, k);
+        self.between[k] += 1;
+    }
+
     /// A call that something else judged.
     pub fn count_only(&mut self, family: usize, k: usize) {
         self.calls[family][k.min(RECOGNISERS)] += 1;
@@ -54,6 +64,7 @@ impl Tally {
             self.corners.as_flattened_mut(),
             other.corners.as_flattened(),
         );
+        add(&mut self.between, &other.between);
         for (mine, more) in self.pairs.iter_mut().zip(&other.pairs) {
             add(mine, more);
         }
@@ -68,6 +79,9 @@ impl Tally {
         for k in 0..RECOGNISERS {
             if self.repository[k] < calls {
                 return Err(format!("recogniser {k}: only {} calls", self.repository[k]));
+            }
+            if tenths::RECOGNISERS.contains(&k) && self.between[k] == 0 {
+                return Err(format!("recogniser {k}: no call between multiples of ten"));
             }
             for pair in possible(k) {
                 if self.pairs[k][place(pair.number())] == 0 {
@@ -85,6 +99,7 @@ impl Tally {
     pub fn print(&self) {
         self.print_calls();
         self.print_corners();
+        self.print_between();
         self.print_pairs();
     }
 
@@ -113,6 +128,13 @@ impl Tally {
         println!("\nCorners, judged by the plain port alone");
         for (corner, [calls, differ]) in Corner::ALL.iter().zip(self.corners) {
             println!("{corner:?}: {calls} calls, the repository differs in {differ}");
+        }
+    }
+
+    fn print_between(&self) {
+        println!("\nThresholds between multiples of ten, judged by the plain port alone");
+        for (k, calls) in self.between.iter().enumerate().filter(|(_, n)| **n > 0) {
+            println!("{k} {}: {calls} calls", NAMES[k]);
         }
     }
 

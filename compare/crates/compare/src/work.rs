@@ -6,17 +6,25 @@ use inputs::families::{FAMILIES, LONG};
 use inputs::grids::{GRIDS, Grid};
 use inputs::middles::{self, Window};
 use inputs::rng::Rng;
-use inputs::{Case, known, refusals, walk};
+use inputs::{Case, known, refusals, tenths, walk};
 use jcc_types::{BAR_BYTES, Bar, MAX_BARS, RECOGNISERS};
 use std::ops::Range;
 
 /// The families after the random ones.
-const OTHERS: [&str; 5] = ["signalling", "exhaustive", "middles", "refusals", "known"];
+const OTHERS: [&str; 6] = [
+    "signalling",
+    "exhaustive",
+    "middles",
+    "edges",
+    "refusals",
+    "known",
+];
 const SIGNALLING: usize = FAMILIES.len();
 const EXHAUSTIVE: usize = SIGNALLING + 1;
 const MIDDLES: usize = SIGNALLING + 2;
-const REFUSALS: usize = SIGNALLING + 3;
-const KNOWN: usize = SIGNALLING + 4;
+const EDGES: usize = SIGNALLING + 3;
+const REFUSALS: usize = SIGNALLING + 4;
+const KNOWN: usize = SIGNALLING + 5;
 
 pub fn family_names() -> impl Iterator<Item = &'static str> {
     FAMILIES.iter().map(|f| f.name).chain(OTHERS)
@@ -43,6 +51,10 @@ pub enum Work {
     Refusals,
     /// As many bars as there may be, judged by the repository.
     MostBars,
+    /// Doji tests of 13 and 14 at their edge, for many thresholds.
+    Edges {
+        seed: u64,
+    },
     Grid(&'static Grid, Range<usize>),
     Middles {
         window: Window,
@@ -59,7 +71,9 @@ pub enum Work {
 
 /// All parts of a run. A little of every random family comes first, so that most errors show early.
 pub fn all(options: &Options) -> Vec<Work> {
+    let seed = options.seed;
     let mut parts = vec![Work::Known, Work::Refusals, Work::MostBars];
+    parts.push(Work::Edges { seed });
     parts.extend(random_parts(options, 0..1));
     parts.extend(middle_parts(options));
     for grid in &GRIDS {
@@ -108,6 +122,7 @@ impl Work {
                 .try_for_each(|k| judge.check_known(KNOWN, k)),
             Work::Refusals => refusal_calls(judge),
             Work::MostBars => most_bars(judge),
+            Work::Edges { seed } => edge_calls(judge, &mut Rng::stream(*seed, EDGES as u64, 0)),
             Work::Grid(grid, range) => grid_calls(judge, grid, range.clone()),
             Work::Middles { window, part, seed } => {
                 let mut rng = Rng::stream(*seed, MIDDLES as u64, *part);
@@ -162,6 +177,15 @@ fn middle_calls(judge: &mut Judge, window: &Window, rng: &mut Rng) -> Result<(),
     for case in window.cases() {
         judge.check(MIDDLES, &case, &middles::RECOGNISERS)?;
         judge.check_signalling(SIGNALLING, &case, &middles::RECOGNISERS, rng)?;
+    }
+    Ok(())
+}
+
+fn edge_calls(judge: &mut Judge, rng: &mut Rng) -> Result<(), Difference> {
+    for th in tenths::thresholds(rng) {
+        for case in tenths::cases(th) {
+            judge.check(EDGES, &case, &tenths::RECOGNISERS)?;
+        }
     }
     Ok(())
 }

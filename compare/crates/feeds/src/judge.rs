@@ -1,7 +1,7 @@
 //! What a box must say, and whether the exports and the plain box say it.
 //!
 //! The rows are the repository's answers at offset 1 over the history up to each bar, a look is its
-//! answer over the whole history; in 01's corners the plain port answers instead.
+//! answer over the whole history; where it has no say, the plain port answers instead.
 
 use crate::counts::Counts;
 use crate::sheet::{Sheet, pair_at};
@@ -12,8 +12,7 @@ use inputs::looks::Look;
 use inputs::rng::Rng;
 use inputs::{cuts, hostile, looks, tallies};
 use jcc_types::{Bar, Label, MOST_OFFSET, Pair, RECOGNISERS, REFUSED, ROW_BYTES, Thresholds};
-use oracle::Oracle;
-use oracle::corner::Corner;
+use oracle::{Oracle, Verdict};
 use port::PlainBox;
 
 /// A difference, with all that is needed to see it again.
@@ -164,7 +163,6 @@ impl Judge {
             self.oracle.push(bar);
             for k in 0..RECOGNISERS {
                 let number = self.pair(k, 1, &trial.thresholds, &trial.bars[..=i])?;
-                self.tally.see(k, number);
                 rows.extend((number as u16).to_be_bytes());
             }
         }
@@ -203,15 +201,14 @@ impl Judge {
     /// The pair over the bars that the repository holds.
     fn pair(&mut self, k: usize, offset: u32, t: &Thresholds, bars: &[Bar]) -> Result<u32, String> {
         let plain = port::label(k, offset, t, bars).number();
-        let repository = self.oracle.label(k, offset);
-        let differ = plain != repository;
-        match Corner::of(k, offset, bars) {
-            Some(corner) => self.tally.count_corner(corner, differ),
-            None if differ => {
-                let wrong = text::pair(k as u32, repository, plain);
+        match self.oracle.verdict(k, offset) {
+            Verdict::Answer(answer) if answer != plain => {
+                let wrong = text::pair(k as u32, answer, plain);
                 return Err(format!("plain port, bar {}, {wrong}", bars.len()));
             }
-            None => {}
+            Verdict::Answer(answer) => self.tally.see(k, answer),
+            Verdict::Open(corner, answer) => self.tally.count_corner(corner, answer != plain),
+            Verdict::NoAnswer => self.tally.between += 1,
         }
         Ok(plain)
     }

@@ -1,5 +1,6 @@
 //! Compares the exports `jcc_feed`, `jcc_tally` and `jcc_look` with the repository's own functions, and
-//! all with the plain box. Stops at the first difference outside 01's two corners.
+//! all with the plain box, which judges alone where the repository has no say. Stops at the first
+//! difference.
 
 mod counts;
 mod judge;

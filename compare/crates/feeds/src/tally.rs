@@ -8,8 +8,12 @@ use oracle::corner::Corner;
 pub struct Tally {
     /// Random histories by family, and their bars.
     pub histories: [[u64; 2]; PIECES.len()],
-    /// Rows that the repository judged.
+    /// Rows that the repository judged, but for the pairs in which it has no say.
     pub judged: u64,
+    /// Pairs that it gave, for rows and looks.
+    given: u64,
+    /// Pairs of 13 and 14 with a threshold that is no multiple of ten: the plain port's.
+    pub between: u64,
     /// Rows of the export compared with them: each as often as its history was cut.
     pub rows: u64,
     /// Tallies that were compared: one of each cut.
@@ -23,7 +27,7 @@ pub struct Tally {
     pub refusals: u64,
     /// Pairs in each corner, and how many of them the repository answers otherwise than 01.
     corners: [[u64; 2]; Corner::ALL.len()],
-    /// The pairs seen in rows, by recogniser, at v1 × 38 + v2.
+    /// The pairs that the repository gave, by recogniser, at v1 × 38 + v2.
     seen: Vec<Vec<bool>>,
 }
 
@@ -32,6 +36,8 @@ impl Tally {
         Tally {
             histories: [[0; 2]; PIECES.len()],
             judged: 0,
+            given: 0,
+            between: 0,
             rows: 0,
             tallies: 0,
             patterns: 0,
@@ -51,7 +57,9 @@ impl Tally {
         add(&mut self.corners[corner as usize], &[1, differs.into()]);
     }
 
+    /// A pair that the repository gave.
     pub fn see(&mut self, k: usize, pair: u32) {
+        self.given += 1;
         self.seen[k][place(pair)] = true;
     }
 
@@ -62,6 +70,8 @@ impl Tally {
     pub fn add(&mut self, more: &Tally) {
         for (sum, n) in [
             (&mut self.judged, more.judged),
+            (&mut self.given, more.given),
+            (&mut self.between, more.between),
             (&mut self.rows, more.rows),
             (&mut self.tallies, more.tallies),
             (&mut self.patterns, more.patterns),
@@ -87,9 +97,8 @@ impl Tally {
         let pairs = RECOGNISERS as u64;
         let [seen, possible] = self.coverage();
         println!(
-            "\nJudged by the repository: {} rows, {} pairs; {seen} of {possible} kinds of pairs seen",
-            self.judged,
-            self.judged * pairs,
+            "\nJudged by the repository: {} rows; {} pairs with looks, {seen} of {possible} kinds seen",
+            self.judged, self.given,
         );
         println!(
             "Compared in all cuts: {} rows, {} pairs; with other NaN patterns: {} rows",
@@ -103,6 +112,10 @@ impl Tally {
             self.looks,
         );
         println!("Calls that may be refused: {}", self.refusals);
+        println!(
+            "Thresholds between multiples of ten: {} pairs, judged by the plain port alone",
+            self.between,
+        );
         for (corner, [pairs, differ]) in Corner::ALL.iter().zip(self.corners) {
             println!("Corner {corner:?}: {pairs} pairs, the repository differs in {differ}");
         }

@@ -217,8 +217,8 @@ pub fn fit_threshold(rng: &mut Rng, case: &mut Case) {
     let mut wholes = case.thresholds.wholes();
     // Both kinds are searched as whole numbers; an f64 that is not negative by its bits.
     let most = match threshold {
-        Whole(_) => 1_000_000,
-        Real(_) => 10_000.0_f64.to_bits(),
+        Whole(i) => Thresholds::most(i).into(),
+        Real(_) => Thresholds::MOST_REAL.to_bits(),
     };
     let mut set = |value: u64| {
         match threshold {

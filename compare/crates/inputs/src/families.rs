@@ -6,6 +6,7 @@ use crate::hostile::{perturb, spoil, spoil_bodies};
 use crate::middles;
 use crate::planted::{planted, planted_tower};
 use crate::rng::Rng;
+use crate::tenths;
 use crate::walk::{Walk, small_bar};
 use jcc_types::{Bar, LEAST_P, Thresholds};
 
@@ -13,8 +14,8 @@ use jcc_types::{Bar, LEAST_P, Thresholds};
 pub struct Family {
     pub name: &'static str,
     pub fill: fn(&mut Rng, &mut Case),
-    /// Its part of a run in percent. The parts add up to more than a hundred: calls in 01's corners
-    /// don't count as compared with the repository.
+    /// Its part of a run in percent. The parts add up to more than a hundred: calls in which the
+    /// repository has no say don't count as compared with it.
     pub percent: u64,
     /// Whether its prices may be NaN.
     pub has_nan: bool,
@@ -36,7 +37,7 @@ const fn with_nan(family: Family) -> Family {
     }
 }
 
-pub const FAMILIES: [Family; 9] = [
+pub const FAMILIES: [Family; 10] = [
     family("walks", walks, 15),
     family("small", small, 14),
     family("long", long, 5),
@@ -46,21 +47,23 @@ pub const FAMILIES: [Family; 9] = [
     family("offsets", offsets, 6),
     family("thresholds", thresholds, 11),
     with_nan(family("corners", corners, 3)),
+    family("tenths", tenths::edges, 5),
 ];
 
 /// The place of the family of long histories.
 pub const LONG: usize = 2;
 
 /// The families whose histories, one after the other, make the history of a box.
-pub const PIECES: [Family; 8] = [
+pub const PIECES: [Family; 9] = [
     family("walks", walks, 15),
-    family("small", small, 15),
+    family("small", small, 10),
     family("planted", planted, 20),
     family("boundaries", boundaries, 10),
     with_nan(family("hostile", hostile, 15)),
     family("thresholds", thresholds, 10),
     with_nan(family("corners", corners, 5)),
     with_nan(family("middles", middles::changed, 10)),
+    family("tenths", tenths::edges, 5),
 ];
 
 /// Lengths at and around those at which a rule begins, the quarter, 12's gate and a box's 64.
@@ -191,13 +194,12 @@ fn push_zeros(rng: &mut Rng, case: &mut Case) {
     case.offsets.extend([1, 2]);
 }
 
-/// Whole thresholds at and around their limits, and where bars of whole numbers make ties.
-const WHOLES: [u32; 22] = [
+/// Whole thresholds where bars of whole numbers make ties.
+const WHOLES: [u32; 20] = [
     0, 1, 2, 3, 5, 10, 20, 49, 50, 51, 99, 100, 101, 200, 300, 499, 500, 1000, 5000, 10_000,
-    999_999, 1_000_000,
 ];
 
-/// The same for the two with a fraction; 0.29 × 100 is below 29.
+/// The two with a fraction, at and around their limits too; 0.29 × 100 is below 29.
 const REALS: [f64; 20] = [
     0.0,
     -0.0,
@@ -218,7 +220,7 @@ const REALS: [f64; 20] = [
     8191.99,
     9999.99,
     9_999.999_999_999_998,
-    10_000.0,
+    Thresholds::MOST_REAL,
 ];
 
 fn thresholds(rng: &mut Rng, case: &mut Case) {
@@ -239,12 +241,35 @@ pub fn random_thresholds(rng: &mut Rng) -> Thresholds {
         }
     };
     let reals = [real(), real()];
-    let wholes = std::array::from_fn(|_| {
-        if rng.one_in(4) {
-            rng.between(0, 600) as u32
+    let wholes = std::array::from_fn(|i| {
+        if Thresholds::is_in_tenths(i) {
+            random_tenths(rng)
         } else {
-            rng.pick(&WHOLES)
+            random_whole(rng)
         }
     });
     Thresholds::from_parts(reals, wholes)
+}
+
+fn random_whole(rng: &mut Rng) -> u32 {
+    match rng.below(12) {
+        0..3 => rng.between(0, 600) as u32,
+        3 => Thresholds::MOST_WHOLE - rng.below(2) as u32,
+        _ => rng.pick(&WHOLES),
+    }
+}
+
+/// Half of the time whole units, such as the repository takes, otherwise anything: many next to
+/// them.
+pub fn random_tenths(rng: &mut Rng) -> u32 {
+    const MOST: u32 = Thresholds::MOST_TENTHS;
+    let units = Thresholds::UNIT * random_whole(rng);
+    match rng.below(10) {
+        0..5 => units,
+        5 => units.saturating_sub(rng.between(1, 9) as u32),
+        6 => MOST.min(units + rng.between(1, 9) as u32),
+        7 => rng.pick(&tenths::NAMED),
+        8 => rng.between(0, 1200) as u32,
+        _ => rng.between(0, MOST as usize) as u32,
+    }
 }

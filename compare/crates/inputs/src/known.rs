@@ -1,10 +1,10 @@
-//! Inputs whose answers are printed: 01's small histories, its misreadings, and what was found when
-//! the repository was first run beside a model of 01.
+//! Inputs whose answers are printed: 01's small histories, its misreadings, 02's tenths, and what was
+//! found when the repository was first run beside a model of 01.
 
 use jcc_types::Label::*;
 use jcc_types::{Bar, Pair, Thresholds};
 
-/// An input with its answer, standard set unless said otherwise.
+/// An input with its answer.
 pub struct Known {
     pub name: &'static str,
     pub recogniser: usize,
@@ -149,6 +149,50 @@ fn middles() -> Vec<Known> {
     .collect()
 }
 
+/// Doji of 13 and 14 whose range is so many bodies, with a threshold in tenths: 10.5 bodies are more
+/// than 100 tenths, 10.6 more than 105 too, and neither is more than 110. At 100 and 110 the
+/// repository says so with 10 and 11. The old standard, 10, is one body now.
+fn tenths() -> Vec<Known> {
+    let tests = [
+        (105, "10.5", false),
+        (105, "10.6", true),
+        (100, "10.5", true),
+        (100, "10.6", true),
+        (110, "10.5", false),
+        (110, "10.6", false),
+        (100, "10", false),
+        (10, "10", true),
+        (10, "1.5", true),
+        (10, "1", false),
+    ];
+    let known = |(th, bodies, is_doji): (u32, &str, bool)| {
+        let bar = format!("0/1/{bodies}/0");
+        let thresholds = |th13, th14| Thresholds {
+            th13,
+            th14,
+            ..Thresholds::STANDARD
+        };
+        let [one, three] = if is_doji {
+            [GravestoneDoji, Met]
+        } else {
+            [Other, Other]
+        };
+        [
+            Known {
+                name: "13: a threshold in tenths",
+                thresholds: thresholds(th, 0),
+                ..known(13, &format!("10*1/1/1/1 {bar}"), Pair(one, Any))
+            },
+            Known {
+                name: "14: a threshold in tenths",
+                thresholds: thresholds(0, th),
+                ..known(14, &format!("5*1/1/1/1 3*{bar}"), Pair(three, Any))
+            },
+        ]
+    };
+    tests.into_iter().flat_map(known).collect()
+}
+
 /// What was found about the papers.
 fn findings() -> Vec<Known> {
     vec![
@@ -191,8 +235,14 @@ fn findings() -> Vec<Known> {
 }
 
 pub fn all() -> Vec<Known> {
-    [small_histories(), misreadings(), middles(), findings()]
-        .into_iter()
-        .flatten()
-        .collect()
+    [
+        small_histories(),
+        misreadings(),
+        tenths(),
+        middles(),
+        findings(),
+    ]
+    .into_iter()
+    .flatten()
+    .collect()
 }

@@ -18,6 +18,7 @@ pub mod refusals;
 pub mod report;
 pub mod rng;
 pub mod tallies;
+pub mod tenths;
 pub mod walk;
 
 use jcc_types::{Bar, Thresholds};

@@ -52,8 +52,16 @@ pub fn sheet_lengths(bars: usize) -> Vec<usize> {
     lengths
 }
 
-/// Whole numbers that are no threshold, and the greatest that is.
-const WHOLES: [u32; 4] = [1_000_001, 1 << 31, u32::MAX, 1_000_000];
+/// The greatest whole thresholds of both kinds and the numbers above them, tried in every place: what
+/// is too much for one kind may be little for the other.
+const WHOLES: [u32; 6] = [
+    Thresholds::MOST_WHOLE,
+    Thresholds::MOST_WHOLE + 1,
+    Thresholds::MOST_TENTHS,
+    Thresholds::MOST_TENTHS + 1,
+    1 << 31,
+    u32::MAX,
+];
 
 /// Numbers that are no threshold of 0 or 8, NaN of several kinds among them, and some that are.
 fn reals() -> Vec<f64> {
@@ -65,8 +73,9 @@ fn reals() -> Vec<f64> {
     ];
     let mut reals: Vec<f64> = nan.into_iter().map(f64::from_bits).collect();
     reals.extend([f64::INFINITY, f64::NEG_INFINITY, f64::MAX, -1.0]);
-    reals.extend([-f64::from_bits(1), 10_000.0_f64.next_up(), 10_000.5]);
-    reals.extend([-0.0, f64::from_bits(1), 10_000.0]);
+    let most = Thresholds::MOST_REAL;
+    reals.extend([-f64::from_bits(1), most.next_up(), most + 0.5]);
+    reals.extend([-0.0, f64::from_bits(1), most]);
     reals
 }
 

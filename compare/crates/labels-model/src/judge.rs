@@ -1,8 +1,7 @@
 //! Where the labels come from.
 
 use jcc_types::{Bar, RECOGNISERS, ROW_BYTES, Thresholds};
-use oracle::Oracle;
-use oracle::corner::Corner;
+use oracle::{Oracle, Verdict};
 use port::PlainBox;
 
 /// A bar's row in a sheet: v1 and v2 of each recogniser.
@@ -44,15 +43,11 @@ impl Judge for Port {
     }
 }
 
-/// The bars that tell whether a pair is in one of 01's corners.
-const CORNER_BARS: usize = 21;
-
 /// The repository's functions over the whole history up to each bar. The refusals, and the pairs in
 /// 01's corners, where Rust leaves the repository's answer open, are the port's.
 pub struct Repository {
     port: Port,
     oracle: Oracle,
-    newest: Vec<Bar>,
     /// How many pairs were in a corner.
     pub corners: u64,
 }
@@ -62,7 +57,6 @@ impl Repository {
         Repository {
             port: Port::new(),
             oracle: Oracle::new(),
-            newest: Vec::with_capacity(CORNER_BARS + 1),
             corners: 0,
         }
     }
@@ -78,18 +72,15 @@ impl Judge for Repository {
     fn next(&mut self, bar: &Bar) -> Result<Row, u32> {
         let mut row = self.port.next(bar)?;
         self.oracle.push(bar);
-        if self.newest.len() == CORNER_BARS {
-            self.newest.remove(0);
-        }
-        self.newest.push(*bar);
         for recogniser in 0..RECOGNISERS {
-            if Corner::of(recogniser, 1, &self.newest).is_some() {
-                self.corners += 1;
-                continue;
+            match self.oracle.verdict(recogniser, 1) {
+                Verdict::Answer(pair) => {
+                    row[2 * recogniser] = (pair / 256) as u8;
+                    row[2 * recogniser + 1] = (pair % 256) as u8;
+                }
+                Verdict::Open(..) => self.corners += 1,
+                Verdict::NoAnswer => unreachable!("the standard set is in whole units"),
             }
-            let pair = self.oracle.label(recogniser, 1);
-            row[2 * recogniser] = (pair / 256) as u8;
-            row[2 * recogniser + 1] = (pair % 256) as u8;
         }
         Ok(row)
     }

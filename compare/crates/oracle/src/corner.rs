@@ -3,8 +3,8 @@
 //! A third place does not show: Rust leaves the rounding of `powi` open too, and `x.powi(2)` is
 //! compiled to x × x, which 01 chooses.
 
+use crate::objects::bar::RawBar;
 use crate::utils::sig::get_sub_elements;
-use jcc_types::Bar;
 
 #[derive(Clone, Copy, Debug, PartialEq, Eq)]
 pub enum Corner {
@@ -18,7 +18,7 @@ impl Corner {
     pub const ALL: [Corner; 2] = [Corner::NanBody, Corner::ZeroExtremes];
 
     /// The corner that a call is in. The offset is at least 1.
-    pub fn of(recogniser: usize, offset: u32, bars: &[Bar]) -> Option<Corner> {
+    pub(crate) fn of(recogniser: usize, offset: u32, bars: &[RawBar]) -> Option<Corner> {
         let window = |n| get_sub_elements(bars, offset as usize, n);
         match recogniser {
             17 if window(5).len() == 5 && window(9).iter().any(nan_body) => Some(Corner::NanBody),
@@ -28,11 +28,11 @@ impl Corner {
     }
 }
 
-fn nan_body(bar: &Bar) -> bool {
+fn nan_body(bar: &RawBar) -> bool {
     (bar.open - bar.close).is_nan()
 }
 
-fn zero_extremes(bars: &[Bar]) -> bool {
+fn zero_extremes(bars: &[RawBar]) -> bool {
     let highest = bars
         .iter()
         .map(|b| b.high)

@@ -20,6 +20,7 @@ mod jcc {
 }
 
 use analyze::CZSC;
+use corner::Corner;
 use jcc_types::{Bar, RECOGNISERS, Thresholds, code_of};
 use objects::bar::RawBar;
 use objects::freq::Freq;
@@ -52,6 +53,27 @@ const FUNCTIONS: [Function; RECOGNISERS] = [
     jcc::jcc_ta_xing_v221124,
 ];
 
+/// What the repository says of a call, an answer being in the export's form.
+#[derive(Clone, Copy, Debug, PartialEq, Eq)]
+pub enum Verdict {
+    /// Its answer, which everyone must give.
+    Answer(u32),
+    /// Its answer in one of 01's corners, where nobody is held to it.
+    Open(Corner, u32),
+    /// None: the threshold of 13 or 14 is no multiple of ten, and the repository takes whole units.
+    NoAnswer,
+}
+
+impl Verdict {
+    /// The answer that everyone must give.
+    pub fn answer(self) -> Option<u32> {
+        match self {
+            Verdict::Answer(answer) => Some(answer),
+            Verdict::Open(..) | Verdict::NoAnswer => None,
+        }
+    }
+}
+
 /// A history and parameters for the repository's functions. Both are kept between calls, so that
 /// a call costs what it costs in the repository.
 pub struct Oracle {
@@ -59,6 +81,8 @@ pub struct Oracle {
     params: [HashMap<String, Value>; RECOGNISERS],
     /// The offsets in `params`; 0 for none.
     offsets: [u32; RECOGNISERS],
+    /// Whether the thresholds that were set are such as the repository takes.
+    has_units: [bool; RECOGNISERS],
     cache: TaCache,
 }
 
@@ -73,6 +97,7 @@ impl Oracle {
             },
             params: std::array::from_fn(|_| HashMap::new()),
             offsets: [0; RECOGNISERS],
+            has_units: [true; RECOGNISERS],
             cache: TaCache,
         };
         oracle.set_thresholds(&Thresholds::STANDARD);
@@ -89,7 +114,8 @@ impl Oracle {
         self.czsc.bars_raw.push(raw_bar(bar));
     }
 
-    /// The `th` of 0 and 8 are read by `as_f64`, all others by `as_u64`.
+    /// The `th` of 0 and 8 are read by `as_f64`, all others by `as_u64`. Of tenths the repository is
+    /// handed whole units.
     pub fn set_thresholds(&mut self, t: &Thresholds) {
         let whole = |n: u32| Value::Whole(n.into());
         self.set(0, "th", Value::Real(t.th0));
@@ -103,12 +129,30 @@ impl Oracle {
         self.set(8, "th", Value::Real(t.th8));
         self.set(8, "zf", whole(t.zf8));
         self.set(10, "th", whole(t.th10));
-        self.set(13, "th", whole(t.th13));
-        self.set(14, "th", whole(t.th14));
+        for (recogniser, tenths) in [(13, t.th13), (14, t.th14)] {
+            self.has_units[recogniser] = tenths.is_multiple_of(Thresholds::UNIT);
+            self.set(recogniser, "th", whole(tenths / Thresholds::UNIT));
+        }
     }
 
-    /// The repository's answer in the export's form, v1 × 256 + v2. The offset is at least 1.
+    /// What the repository says of a call on the history and with the thresholds that it was handed:
+    /// the one place that knows where it has no say. The offset is at least 1.
+    pub fn verdict(&mut self, recogniser: usize, offset: u32) -> Verdict {
+        if !self.has_units[recogniser] {
+            return Verdict::NoAnswer;
+        }
+        let answer = self.label(recogniser, offset);
+        match Corner::of(recogniser, offset, &self.czsc.bars_raw) {
+            Some(corner) => Verdict::Open(corner, answer),
+            None => Verdict::Answer(answer),
+        }
+    }
+
+    /// The repository's answer in the export's form, v1 × 256 + v2, in a corner too. Asked of 13 or
+    /// 14 between whole units, it stops: an answer for other thresholds must not pass for one. The
+    /// offset is at least 1.
     pub fn label(&mut self, recogniser: usize, offset: u32) -> u32 {
+        assert!(self.has_units[recogniser], "no whole units: no answer");
         if self.offsets[recogniser] != offset {
             self.offsets[recogniser] = offset;
             self.set(recogniser, "di", Value::Whole(offset.into()));

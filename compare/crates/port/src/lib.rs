@@ -4,7 +4,8 @@
 //! them a box that is fed bars and looked at, and a tally of what it printed.
 //!
 //! It differs from the repository where Rust leaves a result open and 01 chooses: max and min of
-//! zeros, a window of 17 with a NaN body, and x × x for the square.
+//! zeros, a window of 17 with a NaN body, and x × x for the square. The thresholds of 13 and 14 are
+//! 02's, in tenths.
 #![no_std]
 
 mod measures;

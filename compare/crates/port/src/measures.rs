@@ -94,11 +94,12 @@ impl Quarter {
     }
 }
 
-/// A bar with no body but a range, or with a range of more than th bodies.
+/// A bar with no body but a range, or with a range of more than th tenths of its body: 02 divides th
+/// by 10.0 once and compares as 01 does.
 pub fn is_doji(b: &Bar, th: u32) -> bool {
     if b.close == b.open {
         b.high != b.low
     } else {
-        (b.high - b.low) / body(b) > f64::from(th)
+        (b.high - b.low) / body(b) > f64::from(th) / 10.0
     }
 }

@@ -68,6 +68,7 @@ pub fn look_refusal(recogniser: u32, offset: u32) -> Option<u32> {
 
 /// NaN is outside, −0.0 inside.
 pub fn within_limits(t: &Thresholds) -> bool {
-    t.reals().iter().all(|x| (0.0..=10_000.0).contains(x))
-        && t.wholes().iter().all(|n| *n <= 1_000_000)
+    let is_real = |x: &f64| (0.0..=Thresholds::MOST_REAL).contains(x);
+    let is_whole = |(i, n): (usize, u32)| n <= Thresholds::most(i);
+    t.reals().iter().all(is_real) && t.wholes().into_iter().enumerate().all(is_whole)
 }

@@ -109,7 +109,8 @@ impl Bar {
     }
 }
 
-/// The thirteen thresholds; the digits of a name are the recogniser's number.
+/// The thirteen thresholds; the digits of a name are the recogniser's number. Those of 13 and 14 are
+/// in tenths.
 #[derive(Clone, Copy, Debug)]
 pub struct Thresholds {
     pub th0: f64,
@@ -123,13 +124,27 @@ pub struct Thresholds {
     pub th8: f64,
     pub zf8: u32,
     pub th10: u32,
+    /// In tenths.
     pub th13: u32,
+    /// In tenths.
     pub th14: u32,
 }
 
 impl Thresholds {
     /// How many thresholds are whole numbers.
     pub const WHOLE: usize = 11;
+
+    /// The greatest th0 and th8.
+    pub const MOST_REAL: f64 = 10_000.0;
+
+    /// The greatest whole threshold of most kinds.
+    pub const MOST_WHOLE: u32 = 1_000_000;
+
+    /// The greatest of those in tenths.
+    pub const MOST_TENTHS: u32 = 10_000_000;
+
+    /// How many tenths are one of the repository's.
+    pub const UNIT: u32 = 10;
 
     /// The bytes of `to_bytes`.
     pub const BYTES: usize = 2 * 8 + Thresholds::WHOLE * 4;
@@ -146,8 +161,8 @@ impl Thresholds {
         th8: 2.0,
         zf8: 500,
         th10: 100,
-        th13: 10,
-        th14: 10,
+        th13: 100,
+        th14: 100,
     };
 
     /// All zero: what a list of answers starts with.
@@ -210,6 +225,20 @@ impl Thresholds {
             *whole = u32::from_le_bytes(word);
         }
         Thresholds::from_parts([real(0), real(36)], wholes)
+    }
+
+    /// Whether the i-th whole threshold is in tenths: th13 and th14, the last two, are.
+    pub const fn is_in_tenths(i: usize) -> bool {
+        i >= 9
+    }
+
+    /// The greatest value of the i-th whole threshold.
+    pub const fn most(i: usize) -> u32 {
+        if Thresholds::is_in_tenths(i) {
+            Thresholds::MOST_TENTHS
+        } else {
+            Thresholds::MOST_WHOLE
+        }
     }
 
     /// The first byte of the i-th whole threshold: seven stand before th8, four after it.

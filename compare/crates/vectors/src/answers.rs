@@ -4,8 +4,7 @@ use crate::cover::Cover;
 use inputs::known::Known;
 use inputs::{Case, list};
 use jcc_types::{BAR_BYTES, RECOGNISERS, REFUSED, Thresholds};
-use oracle::Oracle;
-use oracle::corner::Corner;
+use oracle::{Oracle, Verdict};
 use std::path::Path;
 use std::{fs, io};
 
@@ -40,15 +39,20 @@ impl Answers {
         self.oracle.set_thresholds(&case.thresholds);
     }
 
-    /// The repository's answer for the case it was handed; none in a corner.
-    fn repository(&mut self, k: usize, offset: u32, case: &Case) -> Option<u32> {
-        let open = Corner::of(k, offset, &case.bars).is_some();
-        (!open).then(|| self.oracle.label(k, offset))
+    /// The answer for the case that the repository was handed last: the repository's, the port's
+    /// where the threshold is no multiple of ten, and none in a corner.
+    fn judged(&mut self, k: usize, offset: u32, case: &Case) -> Option<u32> {
+        match self.oracle.verdict(k, offset) {
+            Verdict::Answer(answer) => Some(answer),
+            Verdict::NoAnswer => Some(by_port(k, offset, case)),
+            Verdict::Open(..) => None,
+        }
     }
 
-    /// Whether the case it was handed gives a pair that is not in the list often enough.
-    pub fn wants(&mut self, k: usize, offset: u32, case: &Case) -> bool {
-        let answer = self.repository(k, offset, case);
+    /// Whether the repository gives for the case it was handed a pair that is not in the list often
+    /// enough.
+    pub fn wants(&mut self, k: usize, offset: u32) -> bool {
+        let answer = self.oracle.verdict(k, offset).answer();
         answer.is_some_and(|pair| self.cover.wants(k, pair))
     }
 
@@ -71,27 +75,33 @@ impl Answers {
     /// A call on the history and thresholds of the last lines; left out in a corner.
     pub fn call(&mut self, recogniser: u32, offset: u32, case: &Case) {
         let bytes = case.bars.len() * BAR_BYTES;
-        let answer = match port::refusal(recogniser, offset, &case.thresholds, bytes) {
-            Some(refusal) => Some(REFUSED + refusal),
-            None => self.repository(recogniser as usize, offset, case),
-        };
-        if let Some(answer) = answer {
-            self.answer(recogniser, offset, answer);
+        if let Some(refusal) = port::refusal(recogniser, offset, &case.thresholds, bytes) {
+            self.answer(recogniser, offset, REFUSED + refusal);
+        } else if let Some(pair) = self.judged(recogniser as usize, offset, case) {
+            self.pair(recogniser as usize, offset, pair);
         }
+    }
+
+    /// A call with its pair, which is covered only if the repository gives it.
+    fn pair(&mut self, k: usize, offset: u32, pair: u32) {
+        if self.oracle.verdict(k, offset).answer().is_some() {
+            self.cover.count(k, pair);
+        }
+        self.answer(k as u32, offset, pair);
     }
 
     fn answer(&mut self, recogniser: u32, offset: u32, answer: u32) {
         list::call(&mut self.calls, recogniser, offset);
         self.answers.push_str(&format!("{answer}\n"));
         self.count += 1;
-        self.cover.count(recogniser as usize, answer);
     }
 
     /// A case with some recognisers at each of its offsets, unless all these calls are in a corner.
     pub fn add(&mut self, case: &Case, recognisers: &[usize]) {
-        let open = |k: &usize, offset: &u32| Corner::of(*k, *offset, &case.bars).is_some();
-        let all_open = |k: &usize| case.offsets.iter().all(|offset| open(k, offset));
-        if recognisers.iter().all(all_open) {
+        self.judge(case);
+        let at = |offset: u32| recognisers.iter().map(move |k| (*k, offset));
+        let mut calls = case.offsets.iter().copied().flat_map(at);
+        if calls.all(|(k, offset)| self.judged(k, offset, case).is_none()) {
             return;
         }
         self.history(case);
@@ -108,7 +118,7 @@ impl Answers {
         self.add(case, &all);
     }
 
-    /// A printed answer; in a corner it is 01's.
+    /// A printed answer, which the port must give, and the repository where it has a say.
     pub fn add_known(&mut self, known: &Known) {
         let case = Case {
             bars: known.bars.clone(),
@@ -117,11 +127,16 @@ impl Answers {
         };
         self.history(&case);
         self.thresholds(&case);
-        let repository = self.oracle.label(known.recogniser, known.offset);
-        let pair = known.pair.number();
-        let corner = known.repository.is_some();
-        assert!(corner || repository == pair, "{}: {repository}", known.name);
-        self.answer(known.recogniser as u32, known.offset, pair);
+        let (k, offset, pair) = (known.recogniser, known.offset, known.pair.number());
+        let repository = self.oracle.verdict(k, offset).answer();
+        for answer in [Some(by_port(k, offset, &case)), repository] {
+            assert!(
+                answer.is_none_or(|a| a == pair),
+                "{}: {answer:?}",
+                known.name
+            );
+        }
+        self.pair(k, offset, pair);
     }
 
     pub fn write(&self, folder: &Path) -> io::Result<()> {
@@ -137,4 +152,8 @@ impl Answers {
             self.calls.len()
         )
     }
+}
+
+fn by_port(k: usize, offset: u32, case: &Case) -> u32 {
+    port::label(k, offset, &case.thresholds, &case.bars).number()
 }

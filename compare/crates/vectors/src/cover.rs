@@ -22,9 +22,9 @@ impl Cover {
         self.wanted.get(&(k, pair)).is_some_and(|times| *times > 0)
     }
 
-    /// An answer that is in the list now; refusals are not counted.
-    pub fn count(&mut self, k: usize, answer: u32) {
-        if let Some(times) = self.wanted.get_mut(&(k, answer)) {
+    /// A pair that is in the list now.
+    pub fn count(&mut self, k: usize, pair: u32) {
+        if let Some(times) = self.wanted.get_mut(&(k, pair)) {
             *times = times.saturating_sub(1);
         }
     }

@@ -1,8 +1,8 @@
 //! Writes a list of the repository's answers, for a program that replays it without the repository:
 //! `stdin` with the calls and `stdout` with one answer a line, in the folder that is given.
 //!
-//! Refusals, which the repository doesn't have, and the answers in 01's two corners come from
-//! document 01 through the plain port.
+//! Refusals, which the repository doesn't have, and the answers where it has no say, in 01's two
+//! corners and between 02's multiples of ten, come from these documents through the plain port.
 
 mod answers;
 mod cover;
@@ -11,8 +11,8 @@ use answers::Answers;
 use inputs::boundaries::{self, Boundary};
 use inputs::families::{FAMILIES, LONG};
 use inputs::rng::Rng;
-use inputs::{Case, known, middles, refusals};
-use jcc_types::RECOGNISERS;
+use inputs::{Case, known, middles, refusals, tenths};
+use jcc_types::{RECOGNISERS, Thresholds};
 use std::collections::BTreeSet;
 use std::env;
 use std::path::Path;
@@ -55,6 +55,7 @@ fn main() -> ExitCode {
     add_pairs(&mut list);
     add_families(&mut list);
     add_middles(&mut list);
+    add_tenths(&mut list);
     add_refusals(&mut list);
     match list.write(Path::new(&folder)) {
         Ok(()) => {
@@ -161,7 +162,7 @@ fn add_pairs(list: &mut Answers) {
 fn add_if_wanted(list: &mut Answers, case: &Case) {
     list.judge(case);
     for offset in &case.offsets {
-        if (0..RECOGNISERS).any(|k| list.wants(k, *offset, case)) {
+        if (0..RECOGNISERS).any(|k| list.wants(k, *offset)) {
             let mut wanted = case.clone();
             wanted.offsets = vec![*offset];
             list.add_all(&wanted);
@@ -192,6 +193,16 @@ fn add_middles(list: &mut Answers) {
         list.add_known(&window.known());
         for case in window.listed_cases() {
             list.add(&case, &[window.recogniser()]);
+        }
+    }
+}
+
+/// Both sides of a doji's edge with thresholds in tenths, the last of which is refused.
+fn add_tenths(list: &mut Answers) {
+    let refused = Thresholds::MOST_TENTHS + 1;
+    for th in tenths::NAMED.into_iter().chain([refused]) {
+        for case in tenths::sides(th) {
+            list.add(&case, &tenths::RECOGNISERS);
         }
     }
 }
