@@ -19,12 +19,14 @@ const BODIES: [f64; 4] = [1.0, 0.25, 3.0, 0.7];
 const FLAT: Bar = Bar::new(1.0, 1.0, 1.0, 1.0);
 
 /// Thresholds that are always tried, and in the list of answers: the least, those around the standard
-/// and around what it was in units, around the other whole thresholds' limit, and the greatest.
-pub const NAMED: [u32; 13] = [
+/// and around what it was in units, around the other whole thresholds' limit, and the greatest. With
+/// 17, ten times the quotient above the edge is rounded to 17, and 17 × 0.1 is more than 17 ÷ 10.0.
+pub const NAMED: [u32; 14] = [
     1,
     9,
     10,
     11,
+    17,
     99,
     100,
     101,
