@@ -49,7 +49,8 @@ fn feed_parts(b: BarBox, sizes: &[u32], prices: &[f64], sheet: &mut [u8]) -> Bar
     feed_part(after, prices, done, total - done, sheet)
 }
 
-// Makes a box and feeds it the prices in feeds of these sizes. The answer is 0, or the number of the refusal, which leaves the sheet.
+// Makes a box and feeds it the prices in feeds of these sizes. The answer is 0, or the number of the refusal, which leaves the sheet. th13 and
+// th14 count tenths.
 #[no_mangle]
 pub extern "C" fn jcc_feed(
     th0: f64,

@@ -133,7 +133,7 @@ pub fn answer_number(a: Answer) -> u32
     }
 }
 
-// The plain call over the bars of the bytes, as a number.
+// The plain call over the bars of the bytes, as a number. th13 and th14 count tenths: whoever passes 10 as before gets a tenth of what he means.
 #[no_mangle]
 pub extern "C" fn jcc_label(
     recogniser: u32,

@@ -123,7 +123,7 @@ pub fn recognise_bars(k: u32, di: u32, t: Thresholds, bars: &[Bar]) -> Answer
     answer(k, di, t, bars.len(), w, gate)
 }
 
-// The plain call as a number, as recognisers::jcc_label, which is lent bytes.
+// The plain call as a number, as recognisers::jcc_label, which is lent bytes. th13 and th14 count tenths.
 #[no_mangle]
 pub extern "C" fn jcc_label_bars(
     recogniser: u32,

@@ -58,7 +58,7 @@ pub fn xing_xian(th: u32, b1: Bar, b2: Bar, b3: Bar) -> Pair
     }
 }
 
-// 13: szx
+// 13: szx; its th, and that of 14, counts tenths, which the doji test divides.
 
 fn doji_kind(b1: Bar, b2: Bar) -> Label
     ensures { λ r. ⌜ r ≡ dojiKind b1 b2 ⌝ }

@@ -72,7 +72,7 @@ fn feed_parts(
 }
 
 // Makes a box and feeds it the prices in feeds of these sizes, with the tally that the numbers are. The answer is 0, or the number of the
-// refusal, which leaves sheet and numbers.
+// refusal, which leaves sheet and numbers. th13 and th14 count tenths.
 #[no_mangle]
 pub extern "C" fn jcc_tally(
     th0: f64,
