@@ -71,7 +71,7 @@ pub fn cases(th: u32) -> impl Iterator<Item = Case> {
 
 /// The two sides of the edge of a threshold, which is that of both recognisers.
 pub fn sides(th: u32) -> [Case; 2] {
-    let edge = f64::from(th) / 10.0;
+    let edge = edge(th);
     [edge, edge.next_up()].map(|range| case([th; 2], rising(1.0, range)))
 }
 
@@ -87,7 +87,7 @@ fn case([th13, th14]: [u32; 2], edge: Bar) -> Case {
 /// The bars with a body at the edge of a threshold: below it, at it and above it, rising from zero
 /// or falling to it.
 fn bars(th: u32, body: f64) -> [Bar; 6] {
-    let edge = body * (f64::from(th) / 10.0);
+    let edge = body * edge(th);
     let [below, above] = [edge.next_down(), edge.next_up()];
     let falling = |range: f64| Bar::new(body, 0.0, 0.0, -range);
     [
@@ -98,6 +98,11 @@ fn bars(th: u32, body: f64) -> [Bar; 6] {
         rising(body, above),
         falling(above),
     ]
+}
+
+/// The greatest range of a bar with a body of 1 that is no doji.
+fn edge(th: u32) -> f64 {
+    f64::from(th) / 10.0
 }
 
 /// A bar that rises from zero, its low, and whose high is its range.
