@@ -1,7 +1,7 @@
 -- At ten times a threshold of 01's the dojis are 01's, since 10k ÷ 10.0 is k. Assumes nothing.
-use mathlib.Core.Path.{_≡_, refl, sym, ap, _∙_}
+use mathlib.Core.Path.{_≡_, refl, ap, _∙_}
 use mathlib.Core.Bool.{true, false, true≢false}
-use Prim.Native.Nat.{ℕ, _*_, _^_, _≤_, _<_}
+use Prim.Native.Nat.{ℕ, _*_, _≤_}
 use native.Mathlib.Nat.{mul-assoc, mul-left-comm, mul-one, mul-pos}
 use native.Mathlib.Omega.{arith}
 use lib.Dec.{lit<}

@@ -3,7 +3,7 @@ use Prim.Native.Nat.{ℕ, _+_}
 use mathlib.Core.Bool.{Bool, cond, _&&_, _||_}
 use mathlib.Core.List.{List, [], _∷_}
 use lib.Dec.{leb}
-use lib.Ieee.{Float, binary64, add, eq, mul, lt}
+use lib.Ieee.{binary64, add, eq, mul, lt}
 use Rattle.measures.specs.Bar.{Bar, bodyOf, upperOf, lowerOf, dojiOf}
 use Rattle.measures.specs.Price.{zero, maxOf, minOf}
 use Rattle.rule_types.specs.declared.label.Label.{Label}
