@@ -32,8 +32,8 @@ pub fn lower(b: Bar) -> f64
     price::min(b.open, b.close) - b.low
 }
 
-// The source's check_szx at a tenth of th, which counts tenths: a flat bar is no doji. It asks close != open before the quotient, which no
-// bar needs: where close == open the quotient is an infinity, and the bar is not flat, or NaN, which is above nothing.
+// The source's check_szx at a tenth of th, which counts tenths: a flat bar is no doji. The source asks close != open before the quotient;
+// no bar needs that: where close == open the quotient is an infinity, and then the bar is not flat, or NaN, which is above nothing.
 pub fn is_doji(b: Bar, th: f64) -> bool
     ensures { λ r. ⌜ r ≡ dojiOf th b ⌝ }
 {
