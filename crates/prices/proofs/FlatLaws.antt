@@ -3,7 +3,7 @@ use mathlib.Core.Path.{_≡_, refl, sym, subst, _∙_}
 use Prim.Native.Nat.{ℕ, zero, suc, _+_, _-_, _*_, _<_}
 use native.Mathlib.Nat.{lt-irrefl, zero-lt-suc, mul-pos, zero-mul}
 use native.Mathlib.Omega.{arith}
-use mathlib.Core.Bool.{Bool, true, false, cond, not, _&&_, false≢true}
+use mathlib.Core.Bool.{Bool, true, false, cond, not, _&&_, false≢true, and-eq-true-iff}
 use borrow.Author.Tests.{eqb-true, eq-eqb, le-ltb}
 use lib.Dec.{ltb, eqb}
 use lib.Pow.{pow-pos}
@@ -35,10 +35,6 @@ round-nil s c p =
     value-nil (round binary64 s 0 c) s c p
     (round-exact binary64 s 0 c 0 0 p (pow-pos (prec binary64)) (pow-pos (low binary64 + suc (emax binary64))) (sym (zero-mul c)))
 
-both-true : (p q : Bool) → (p && q) ≡ true → (p ≡ true) × (q ≡ true)
-both-true true q h = (refl, h)
-both-true false q h = absurd (false≢true h)
-
 -- ---- the difference of equals
 
 same-nil : (s t : Bool) (a b c : ℕ) → 0 < c → eqb a b ≡ true → Nil (cond (ltb a b) (round binary64 t (b - a) c) (round binary64 (s && ltb b a) (a - b) c))
@@ -54,10 +50,10 @@ none-nil s a b c p h z =
 
 level-nil : (s : Bool) (a : ℕ) (t : Bool) (b c : ℕ) → 0 < c → level s a t b ≡ true → Nil (sum binary64 s a (not t) b c)
 unfolding sum
-level-nil true a true b c p h = same-nil true false a b c p (both-true (eqb a b) true h .0)
-level-nil true a false b c p h = let both = both-true (eqb a b) (eqb a 0) h in none-nil true a b c p (both .0) (both .1)
-level-nil false a true b c p h = let both = both-true (eqb a b) (eqb a 0) h in none-nil false a b c p (both .0) (both .1)
-level-nil false a false b c p h = same-nil false true a b c p (both-true (eqb a b) true h .0)
+level-nil true a true b c p h = same-nil true false a b c p (and-eq-true-iff (eqb a b) true .0 h .0)
+level-nil true a false b c p h = let both = and-eq-true-iff (eqb a b) (eqb a 0) .0 h in none-nil true a b c p (both .0) (both .1)
+level-nil false a true b c p h = let both = and-eq-true-iff (eqb a b) (eqb a 0) .0 h in none-nil false a b c p (both .0) (both .1)
+level-nil false a false b c p h = same-nil false true a b c p (and-eq-true-iff (eqb a b) true .0 h .0)
 
 sub-nil : (x y : Float) → eq x y ≡ true → Nil (sub binary64 x y)
 unfolding eq sub add neg
@@ -101,13 +97,13 @@ div-nil (fin s m e) (fin t n d) h g = simp (eq-eqb n 0 g, eq-eqb m 0 h)
 
 none-swaps : (a b : ℕ) → (eqb a b && eqb a 0) ≡ true → (eqb b a && eqb b 0) ≡ true
 none-swaps a b h =
-    let both = both-true (eqb a b) (eqb a 0) h in
+    let both = and-eq-true-iff (eqb a b) (eqb a 0) .0 h in
     let e : a ≡ b = eqb-true a b (both .0) in
     simp (eq-eqb b a (sym e), eq-eqb b 0 (sym e ∙ eqb-true a 0 (both .1)))
 
 level-swaps : (s : Bool) (a : ℕ) (t : Bool) (b : ℕ) → level s a t b ≡ true → level t b s a ≡ true
-level-swaps true a true b h = simp (eq-eqb b a (sym (eqb-true a b (both-true (eqb a b) true h .0))))
-level-swaps false a false b h = simp (eq-eqb b a (sym (eqb-true a b (both-true (eqb a b) true h .0))))
+level-swaps true a true b h = simp (eq-eqb b a (sym (eqb-true a b (and-eq-true-iff (eqb a b) true .0 h .0))))
+level-swaps false a false b h = simp (eq-eqb b a (sym (eqb-true a b (and-eq-true-iff (eqb a b) true .0 h .0))))
 level-swaps true a false b h = none-swaps a b h
 level-swaps false a true b h = none-swaps a b h
 
