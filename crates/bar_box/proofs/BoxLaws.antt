@@ -11,10 +11,11 @@ use lib.Seq.{take-all, take-append-seam, drop-append-add, drop-drop}
 use Rattle.measures.specs.Bar.{Bar, barsOf}
 use Rattle.measures.specs.Window.{newest}
 use Rattle.recognisers.specs.Number.{places}
+use Rattle.bar_box.specs.declared.boxes.KeptBar.{KeptBar}
 use Rattle.bar_box.specs.declared.boxes.BarBox.{BarBox}
-use Rattle.bar_box.specs.Box.{kept, laid, takenIn}
-use Rattle.bar_box.specs.History.{pricesOf}
+use Rattle.bar_box.specs.Box.{numbered, held, kept, laid, takenIn}
 use Rattle.bar_box.proofs.SheetLaws.{newest-append}
+use Rattle.bar_box.proofs.OrdinalLaws.{map-append, map-newest, length-numbered, bars-numbered, numbered-append}
 
 -- ---- lists
 
@@ -41,30 +42,30 @@ module _ {A : Type 0} where
   drop-replicate zero (suc n) x = let none : 0 - suc n ≡ 0 = omega arith in rw none
   drop-replicate (suc m) (suc n) x = let less : suc m - suc n ≡ m - n = omega arith in rw less (drop-replicate m n x)
 
--- ---- the newest bars
+  -- ---- the newest bars
 
--- the newest n, or all if there are fewer
-pub length-newest : (n : ℕ) (bars : List Bar) → length (newest n bars) ≡ min n (length bars)
-unfolding newest
-length-newest n bars = rw length-drop (omega arith)
+  -- the newest n, or all if there are fewer
+  pub length-newest : (n : ℕ) (bars : List A) → length (newest n bars) ≡ min n (length bars)
+  unfolding newest
+  length-newest n bars = rw length-drop (omega arith)
 
--- if there are no more than n, the newest n are all
-pub newest-few : (n : ℕ) (bars : List Bar) → length bars ≤ n → newest n bars ≡ bars
-unfolding newest
-newest-few n bars few = let none : length bars - n ≡ 0 = omega arith in rw none
+  -- if there are no more than n, the newest n are all
+  pub newest-few : (n : ℕ) (bars : List A) → length bars ≤ n → newest n bars ≡ bars
+  unfolding newest
+  newest-few n bars few = let none : length bars - n ≡ 0 = omega arith in rw none
 
--- the newest n of the newest m are the newest n, if n is no more than m
-pub newest-newest : (m n : ℕ) (bars : List Bar) → n ≤ m → newest n (newest m bars) ≡ newest n bars
-newest-newest m n bars le = simp append-nil at (newest-append m n bars [] (omega arith))
+  -- the newest n of the newest m are the newest n, if n is no more than m
+  pub newest-newest : (m n : ℕ) (bars : List A) → n ≤ m → newest n (newest m bars) ≡ newest n bars
+  newest-newest m n bars le = simp append-nil at (newest-append m n bars [] (omega arith))
 
 -- ---- the places
 
 -- there are as many places as before
-pub length-laid : (old h : List Bar) → length old ≡ places → length (laid old h) ≡ places
+pub length-laid : (old h : List KeptBar) → length old ≡ places → length (laid old h) ≡ places
 length-laid old h all = rw (length-append, length-newest, length-drop, all) (omega arith)
 
 -- laying a run over the places that a history left is laying the history and the run
-pub laid-append : (old h bars : List Bar) → laid (laid old h) (newest places h ++ bars) ≡ laid old (h ++ bars)
+pub laid-append : (old h bars : List KeptBar) → laid (laid old h) (newest places h ++ bars) ≡ laid old (h ++ bars)
 laid-append old h bars =
     rw (
       newest-append places places h bars (omega arith),
@@ -77,26 +78,38 @@ laid-append old h bars =
 -- ---- bars that the box keeps and takes in
 
 module _ (b : BarBox) (all : length (b .bars) ≡ places) where
-  -- the box keeps the newest 64 of N bars
-  pub length-kept : length (kept b) ≡ min (b .count) places
-  length-kept = rw (length-take, all)
+  -- the box keeps the records of the newest 64 of N bars
+  pub length-held : length (held b) ≡ min (b .count) places
+  length-held = rw (length-take, all)
 
-  -- after bars were taken in, the newest 64 of those that it kept and of them
-  pub kept-taken : (bars : List Bar) → kept (takenIn b bars) ≡ newest places (kept b ++ bars)
-  kept-taken bars =
-      let h = kept b ++ bars in
-      let had = length-kept in
-      let len : length h ≡ length (kept b) + length bars = length-append (kept b) bars in
-      let held = length-newest places h in
+  -- after bars were taken in, those of the newest 64 of the bars that it kept and of them
+  pub held-taken : (bars : List Bar) → held (takenIn b bars) ≡ newest places (held b ++ numbered (b .count) bars)
+  held-taken bars =
+      let h = held b ++ numbered (b .count) bars in
+      let had = length-held in
+      let more = length-numbered (b .count) bars in
+      let len : length h ≡ length (held b) + length (numbered (b .count) bars) = length-append (held b) (numbered (b .count) bars) in
+      let size = length-newest places h in
       let now = length-laid (b .bars) h all in
       take-same (laid (b .bars) h) (b .count + length bars) (length (newest places h)) (omega arith) ∙ take-append-seam (newest places h) (drop (length h) (b .bars))
 
+  -- the bars of these are the newest 64 of the bars that it kept and of those taken in
+  pub kept-taken : (bars : List Bar) → kept (takenIn b bars) ≡ newest places (kept b ++ bars)
+  kept-taken bars =
+      let f : KeptBar → Bar = λ r. r .bar in
+      rw (held-taken bars, map-newest f places (held b ++ numbered (b .count) bars), map-append f (held b) (numbered (b .count) bars), bars-numbered (b .count) bars)
+
   -- two runs taken in, one after the other, are taken in as one
   pub taken-append : (xs ys : List Bar) → takenIn (takenIn b xs) ys ≡ takenIn b (xs ++ ys)
-  taken-append xs ys = rw (kept-taken xs, laid-append (b .bars) (kept b ++ xs) ys, append-assoc (kept b) xs ys, length-append xs ys) (rw (add-assoc (b .count)))
+  taken-append xs ys =
+      let n = b .count in
+      let first = numbered n xs in
+      let second = numbered (n + length xs) ys in
+      rw (held-taken xs, laid-append (b .bars) (held b ++ first) second, append-assoc (held b) first second, ← numbered-append n xs ys, length-append xs ys) (rw (add-assoc n))
 
   -- taking no bar in leaves the box
   pub taken-none : takenIn b [] ≡ b
+  unfolding numbered
   taken-none =
-      let had = length-kept in
-      rw (add-zero, append-nil (kept b), newest-few places (kept b) (omega arith), drop-same (b .bars) (length (kept b)) (b .count) (omega arith), take-append-drop (b .count) (b .bars))
+      let had = length-held in
+      rw (add-zero, append-nil (held b), newest-few places (held b) (omega arith), drop-same (b .bars) (length (held b)) (b .count) (omega arith), take-append-drop (b .count) (b .bars))

@@ -1,14 +1,14 @@
 -- Demand 3: what every list of feeds leaves, over every box without bars and over the box that making gives. Assumes nothing.
-use Prim.Native.Nat.{ℕ, _+_, _-_, _*_, _≤_, _<_}
+use Prim.Native.Nat.{ℕ, _+_, _-_, _*_, _≤_, _<_, min}
 use mathlib.Core.Path.{_≡_, refl, ap, sym, _∙_}
 use mathlib.Core.Bool.{Bool, true, false, cond, not}
 use mathlib.Core.List.{List, [], _++_}
 use native.Mathlib.Omega.{arith}
 use native.Mathlib.Nat.{zero-add}
-use lib.ListN.{length, drop}
+use lib.ListN.{length, getD, drop}
 use lib.Ieee.{le, ofBits}
-use Rattle.measures.specs.Bar.{Bar}
-use Rattle.measures.specs.Window.{newest}
+use Rattle.measures.specs.Bar.{Bar, noBar}
+use Rattle.measures.specs.Window.{newest, backOf}
 use Rattle.measures.proofs.WindowLaws.{upTo-in}
 use Rattle.recognisers.specs.Threshold.{Thresholds, standardSet, validOf}
 use Rattle.recognisers.specs.declared.call.Refusal.the-variants.{BadThreshold}
@@ -18,16 +18,23 @@ use Rattle.recognisers.specs.Number.{recognisers, rowBytes, places, farthestLoo
 use Rattle.recognisers.specs.Table.{pairAt, codesOf}
 use Rattle.recognisers.specs.Refusal.{firstTrue}
 use Rattle.bar_box.specs.declared.boxes.BarBox.{BarBox}
+use Rattle.recognisers.specs.declared.call.LookAnswer.{LookAnswer}
+use Rattle.recognisers.specs.declared.call.LookAnswer.the-variants.{Judged}
 use Rattle.bar_box.specs.Sheet.{rowsOf}
-use Rattle.bar_box.specs.Box.{takenIn, zeroBar, emptyPlaces, freshBox, madeBy, madeOf, lookOf}
-use Rattle.bar_box.specs.History.{Feed, historyAfter, boxAfter, verdictsOf, joinedRows, Holds, NoBars, Fresh, ZerosLeft, Demand3}
+use Rattle.bar_box.specs.Box.{keptBar, numbered, takenIn, emptyPlace, emptyPlaces, freshBox, madeBy, madeOf, lookOf, lookAnswerOf}
+use Rattle.bar_box.specs.History.{Feed, historyAfter, boxAfter, verdictsOf, joinedRows, barWith, inPlace, Holds, NoBars, Fresh, ZerosLeft, Demand3}
 use Rattle.bar_box.proofs.SheetLaws.{length-rows}
+use Rattle.bar_box.proofs.OrdinalLaws.{length-numbered, place-at}
 use Rattle.bar_box.proofs.BoxLaws.{drop-replicate}
 use Rattle.bar_box.proofs.RowPairs.{pair-in}
 use Rattle.bar_box.proofs.FeedLists.{Sound, sound-empty, sound-after, verdicts-after, box-after, rows-after, at-start, one-accepted, one-box, one-rows}
-use Rattle.bar_box.proofs.LookBack.{look-back, pair-up-to}
+use Rattle.bar_box.proofs.LookBack.{look-back, look-ordinal, look-beyond, pair-up-to}
 
 -- ---- every box without bars
+
+-- what is left of n before the last m, and then m less d and one more, is n less d and one more
+back-from : (n m d : ℕ) → d ≤ m → m ≤ n → n - m + (m - d + 1) ≡ n - d + 1
+back-from n m d le few = omega arith
 
 module _ (b : BarBox) (start : NoBars b) (fs : List Feed) where
   -- "The joined history is the history after the last feed."
@@ -48,13 +55,38 @@ module _ (b : BarBox) (start : NoBars b) (fs : List Feed) where
   joined-rows = ap (λ x. joinedRows x fs) (at-start b start) ∙ rows-after b start [] fs
 
   -- the box, place for place
-  whole-box : boxAfter b fs ≡ record { thresholds = b .thresholds; count = length joined; bars = newest places joined ++ drop (length joined) (b .bars) }
-  whole-box = joined-box ∙ rw (start .none, zero-add)
+  whole-box : boxAfter b fs ≡ record { thresholds = b .thresholds; count = length joined; bars = newest places (numbered 0 joined) ++ drop (length joined) (b .bars) }
+  whole-box = joined-box ∙ rw (start .none, zero-add, length-numbered 0 joined)
+
+  -- the i-th kept place
+  kept-place : (i : ℕ) → 1 ≤ i → i ≤ min (length joined) places
+      → let ordinal = length joined - min (length joined) places + i in inPlace (boxAfter b fs) i ≡ keptBar (barWith joined ordinal) ordinal
+  kept-place i one within = rw whole-box (place-at joined (drop (length joined) (b .bars)) i one within)
 
   -- a look gives the pair over the joined history
   look-joined : (di k : ℕ) → 1 ≤ di → di ≤ farthestLook → di ≤ length joined → k < recognisers
       → lookOf (boxAfter b fs) k di ≡ Labels (pairAt k (b .thresholds) (length joined) joined di)
   look-joined di k one near within known = rw joined-box (look-back b start joined k di (joined-sound .valid (omega arith)) (joined-sound .few) known one near)
+
+  -- and the ordinal of the bar that it judges
+  look-full : (di k : ℕ) → 1 ≤ di → di ≤ farthestLook → di ≤ length joined → k < recognisers
+      → lookAnswerOf (boxAfter b fs) k di ≡ Judged (pairAt k (b .thresholds) (length joined) joined di) (length joined - di + 1)
+  look-full di k one near within known = rw joined-box (look-ordinal b start joined k di (joined-sound .valid (omega arith)) (joined-sound .few) known one near within)
+
+  -- that bar, and its place
+  judged-bar : (di : ℕ) → 1 ≤ di → di ≤ length joined → barWith joined (length joined - di + 1) ≡ backOf joined di
+  unfolding backOf
+  judged-bar di one within =
+      let n = length joined in
+      let at : n - di + 1 - 1 ≡ n - min di n = omega arith in
+      rw at
+
+  judged-place : (di : ℕ) → 1 ≤ di → di ≤ farthestLook → di ≤ length joined
+      → inPlace (boxAfter b fs) (min (length joined) places - di + 1) ≡ keptBar (backOf joined di) (length joined - di + 1)
+  judged-place di one near within =
+      let n = length joined in
+      let m = min n places in
+      kept-place (m - di + 1) (omega arith) (omega arith) ∙ rw (back-from n m di (omega arith) (omega arith), judged-bar di one within)
 
   -- demand 3 for this box and these feeds
   holds-after : (sheet : List ℕ) → rowBytes * length joined ≤ length sheet → Holds b fs joined sheet
@@ -87,6 +119,19 @@ module _ (b : BarBox) (start : NoBars b) (fs : List Feed) where
             rw (look-joined di k one near within known, joined-rows, pair-in t h (length h - di) k (omega arith) known, up-to-it);
         -- "In a look, 12's pair over the whole history takes the history's count for len."
         look-whole = look-joined;
+        -- 02: "Each bar's ordinal is written in the record that the box keeps."
+        ordinals = kept-place;
+        -- "A look also hands back the judged bar's ordinal, N − di + 1,"
+        look-in-full = look-full;
+        look-judges = λ di k one near within known. rw (look-full di k one near within known) (judged-bar di one within);
+        look-kept = λ di k one near within known. rw (look-full di k one near within known) (judged-place di one near within);
+        look-row = λ di k one near within known other.
+            let p = length h - di + 1 in
+            let back : p - 1 ≡ length h - di = omega arith in
+            let up-to-it = pair-up-to h di p (upTo-in (length h) di one within) k t other in
+            rw (look-full di k one near within known, back, joined-rows, pair-in t h (length h - di) k (omega arith) known, up-to-it);
+        -- "or 0 where there is none"
+        look-beyond = λ di k beyond. rw joined-box (look-beyond b start h k di beyond);
       }
 
 -- ---- the box that making gives
@@ -118,7 +163,7 @@ zeros-after t fs =
     let m = made t in
     let b = madeOf t .after in
     let h = joined b (m .no-bars) fs in
-    ap (λ x. x .bars) (whole-box b (m .no-bars) fs) ∙ rw (m .zeros) (ap (λ x. newest places h ++ x) (drop-replicate places (length h) zeroBar))
+    ap (λ x. x .bars) (whole-box b (m .no-bars) fs) ∙ rw (m .zeros) (ap (λ x. newest places (numbered 0 h) ++ x) (drop-replicate places (length h) emptyPlace))
 
 -- ---- demand 3, "said of the whole list at once"
 

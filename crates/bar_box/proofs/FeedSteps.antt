@@ -8,9 +8,11 @@ use native.Mathlib.Omega.{arith}
 use native.Mathlib.Nat.{zero-add}
 use borrow.Author.Tests.{not-false, eqb-true, ltb-false, eq-eqb, le-ltb}
 use lib.ListN.{length, take, drop}
-use lib.Seq.{take-at}
+use lib.Seq.{take-at, take-length}
+use lib.Ieee.{Float}
 use Rattle.measures.specs.Bar.{Bar, barsOf}
 use Rattle.measures.specs.Window.{newest}
+use Rattle.measures.proofs.RunLaws.{length-bars}
 use Rattle.recognisers.specs.Threshold.{Thresholds, validOf}
 use Rattle.recognisers.specs.declared.call.Verdict.{Verdict}
 use Rattle.recognisers.specs.declared.call.Verdict.the-variants.{Accepted, Denied}
@@ -20,8 +22,9 @@ use Rattle.bar_box.specs.declared.boxes.BarBox.{BarBox}
 use Rattle.bar_box.specs.Sheet.{before, rowsOf, overlay}
 use Rattle.bar_box.specs.Box.{kept, takenIn, feedVerdict, leaves, fedOf, sheetOf}
 use Rattle.bar_box.specs.History.{Feed, verdictOn, appended, fed, rowsIn, NoBars}
+use Rattle.bar_box.proofs.Overlay.{overlay-none}
 use Rattle.bar_box.proofs.SheetLaws.{length-rows, rows-near}
-use Rattle.bar_box.proofs.BoxLaws.{newest-newest, kept-taken, taken-append}
+use Rattle.bar_box.proofs.BoxLaws.{newest-newest, kept-taken, taken-append, taken-none}
 
 -- ---- what an accepted feed meets
 
@@ -55,6 +58,38 @@ fits t n prices sheet none =
 pub accepts : (t : Thresholds) (n prices sheet : ℕ) → Fits t n prices sheet → feedVerdict t n prices sheet ≡ Accepted
 unfolding feedVerdict firstTrue
 accepts t n prices sheet f = simp (f .valid, eq-eqb (prices % 4) 0 (f .whole), le-ltb mostBars (n + prices / 4) (f .few), le-ltb sheet (rowBytes * (prices / 4)) (f .room))
+
+-- ---- a feed takes all lent prices in, or none
+
+-- how many of them, by the verdict
+abbrev lent : Verdict → List Float → List Float
+lent v ps = take (leaves v 0 (length ps)) ps
+
+pub lent-few : (v : Verdict) (n : ℕ) → leaves v 0 n ≤ n
+lent-few Accepted n = omega arith
+lent-few (Denied r) n = omega arith
+
+-- 32 bits hold N and their bars, and the sheet has room for their rows
+pub lent-fits : (t : Thresholds) (n : ℕ) (ps : List Float) (sheet : ℕ) (v : Verdict) → feedVerdict t n (length ps) sheet ≡ v → n ≤ 4294967295
+    → (n + length (barsOf (lent v ps)) ≤ 4294967295) × (rowBytes * length (barsOf (lent v ps)) ≤ sheet)
+unfolding barsOf
+lent-fits t n ps sheet Accepted e bound =
+    let f = fits t n (length ps) sheet e in
+    rw (take-length ps, length-bars ps) (omega (arith, f .few), f .room)
+lent-fits t n ps sheet (Denied r) e bound = (omega arith, omega arith)
+
+-- they leave the box that the verdict says
+pub lent-box : (v : Verdict) (b : BarBox) → length (b .bars) ≡ places → (ps : List Float) → takenIn b (barsOf (lent v ps)) ≡ leaves v b (takenIn b (barsOf ps))
+unfolding barsOf
+lent-box Accepted b all ps = rw (take-length ps)
+lent-box (Denied r) b all ps = taken-none b all
+
+-- and the sheet
+pub lent-sheet : (v : Verdict) (t : Thresholds) (n : ℕ) (h : List Bar) (ps : List Float) (sheet : List ℕ)
+    → overlay sheet 0 (rowsOf t n h (barsOf (lent v ps))) ≡ leaves v sheet (overlay sheet 0 (rowsOf t n h (barsOf ps)))
+unfolding barsOf rowsOf
+lent-sheet Accepted t n h ps sheet = rw (take-length ps)
+lent-sheet (Denied r) t n h ps sheet = overlay-none sheet 0
 
 -- ---- the box that a history left
 

@@ -2,9 +2,11 @@
 pub mod Overlay
 pub mod PriceLaws
 pub mod SheetLaws
+pub mod OrdinalLaws
 pub mod BoxLaws
 pub mod RowLaws
 pub mod SeamLaws
+pub mod PlaceLaws
 pub mod RowPairs
 pub mod FeedSteps
 pub mod FeedLists

@@ -1,26 +1,29 @@
 -- A look at the box that a history left: it gives the pair over the whole history, which for every recogniser but 12 is the pair over the
 -- history up to the judged bar. Assumes nothing.
-use Prim.Native.Nat.{ℕ, _≤_, _<_}
-use mathlib.Core.Path.{_≡_}
+use Prim.Native.Nat.{ℕ, _-_, _+_, _≤_, _<_}
+use mathlib.Core.Path.{_≡_, refl, _∙_}
 use mathlib.Core.Bool.{true}
 use mathlib.Core.List.{List}
+use mathlib.Core.Logic.{inr}
 use native.Mathlib.Omega.{arith}
 use borrow.Author.Tests.{ne-eqb, lt-leb, le-ltb}
 use lib.ListN.{length, take}
 use lib.Seq.{take-length}
 use Rattle.measures.specs.Bar.{Bar}
 use Rattle.measures.specs.Window.{upTo, windowOf}
-use Rattle.measures.proofs.WindowLaws.{upTo-one}
+use Rattle.measures.proofs.WindowLaws.{upTo-one, upTo-in, upTo-out}
 use Rattle.recognisers.specs.Threshold.{Thresholds, validOf}
 use Rattle.recognisers.specs.declared.call.Verdict.the-variants.{Accepted}
-use Rattle.recognisers.specs.declared.call.Answer.the-variants.{Labels}
+use Rattle.recognisers.specs.declared.call.Answer.{Answer}
+use Rattle.recognisers.specs.declared.call.Answer.the-variants.{Labels, Refused}
 use Rattle.recognisers.specs.Number.{recognisers, gated, reachBars, mostBars, farthestLook}
 use Rattle.recognisers.specs.Table.{pairAt}
-use Rattle.recognisers.specs.Refusal.{firstTrue}
+use Rattle.recognisers.specs.Refusal.{firstTrue, ordinalIn}
 use Rattle.recognisers.proofs.Reach as reach
 use Rattle.recognisers.proofs.TableLaws.{judge-gateless}
 use Rattle.bar_box.specs.declared.boxes.BarBox.{BarBox}
-use Rattle.bar_box.specs.Box.{takenIn, lookVerdict, lookOf}
+use Rattle.recognisers.specs.declared.call.LookAnswer.the-variants.{Judged}
+use Rattle.bar_box.specs.Box.{takenIn, lookVerdict, lookOf, withOrdinal, lookAnswerOf}
 use Rattle.bar_box.specs.History.{NoBars}
 use Rattle.bar_box.proofs.FeedSteps.{count-after, kept-after}
 
@@ -37,6 +40,24 @@ unfolding lookOf
 look-back b start h k di valid few known one near =
     let t = b .thresholds in
     rw (kept-after b start h, count-after b start h, look-accepted k di t (length h) known one valid few near, reach.kept k t (length h) h di near)
+
+-- and the ordinal is that of the judged bar
+pub look-ordinal : (b : BarBox) → NoBars b → (h : List Bar) (k di : ℕ) → validOf (b .thresholds) ≡ true → length h ≤ mostBars → k < recognisers → 1 ≤ di → di ≤ farthestLook
+    → di ≤ length h → lookAnswerOf (takenIn b h) k di ≡ Judged (pairAt k (b .thresholds) (length h) h di) (length h - di + 1)
+unfolding lookAnswerOf
+look-ordinal b start h k di valid few known one near within = rw (look-back b start h k di valid few known one near, count-after b start h, upTo-in (length h) di one within)
+
+-- an answer without a judged bar has the ordinal 0
+no-ordinal : (a : Answer) → ordinalIn (withOrdinal a 0) ≡ 0
+no-ordinal (Labels pair) = refl
+no-ordinal (Refused r) = refl
+
+-- beyond the history there is none
+pub look-beyond : (b : BarBox) → NoBars b → (h : List Bar) (k di : ℕ) → length h < di → ordinalIn (lookAnswerOf (takenIn b h) k di) ≡ 0
+unfolding lookAnswerOf
+look-beyond b start h k di beyond =
+    let none : upTo (takenIn b h .count) di ≡ 0 = rw (count-after b start h) (upTo-out (length h) di (inr beyond)) in
+    rw none (no-ordinal (lookOf (takenIn b h) k di))
 
 -- the p bars up to the judged one are a history in which it is the newest
 module _ (h : List Bar) (di p : ℕ) (here : upTo (length h) di ≡ p) where

@@ -1,5 +1,5 @@
 -- Laws of `overlay`: a list that is written over from a place on, one element or one run after the other. Assumes nothing.
-use mathlib.Core.Path.{_≡_, _∙_}
+use mathlib.Core.Path.{_≡_, ap, sym, _∙_}
 use mathlib.Core.List.{List, [], _∷_, _++_, append-assoc, append-nil}
 use Prim.Native.Nat.{ℕ, suc, _+_, _-_, _*_, _≤_, _<_}
 use native.Mathlib.Omega.{arith}
@@ -39,3 +39,14 @@ module _ {A : Type 0} where
   overlay-copy s at xs i place d e h g =
       let n : length (take i xs) ≡ i = length-take-le i xs (omega arith) in
       rw (add-one i, take-suc xs i d h) (overlay-next s at (take i xs) (getD xs i d) place (rw n e) g)
+
+  -- four elements one after the other
+  pub overlay-four : (s : List A) (at : ℕ) (w x y z : A) → at + 4 ≤ length s → set (set (set (set s at w) (at + 1) x) (at + 2) y) (at + 3) z ≡ overlay s at (w ∷ x ∷ y ∷ z ∷ [])
+  overlay-four s at w x y z le =
+      let first : set s at w ≡ overlay s at (w ∷ []) = ap (λ (l : List A). set l at w) (sym (overlay-none s at)) ∙ overlay-next s at [] w at (omega arith) (omega arith) in
+      rw (
+        first,
+        overlay-next s at (w ∷ []) x (at + 1) (omega arith) (omega arith),
+        overlay-next s at (w ∷ x ∷ []) y (at + 2) (omega arith) (omega arith),
+        overlay-next s at (w ∷ x ∷ y ∷ []) z (at + 3) (omega arith) (omega arith),
+      )

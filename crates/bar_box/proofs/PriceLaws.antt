@@ -2,16 +2,16 @@
 -- Assumes nothing.
 use Prim.Native.Nat.{ℕ, suc, _+_, _*_, _≤_, _<_}
 use mathlib.Core.Path.{_≡_, refl, ap, _∙_}
-use mathlib.Core.List.{List, [], _∷_, _++_, append-assoc}
+use mathlib.Core.List.{List, [], _∷_, _++_}
 use native.Mathlib.Omega.{arith}
 use native.Mathlib.Numerals.{add-one}
-use lib.ListN.{length, getD, take, set, length-append}
+use lib.ListN.{length, getD, take}
 use lib.Seq.{take-suc, length-take-le}
 use lib.Ieee.{Float}
 use Rattle.measures.specs.Bar.{Bar, noBar, barsOf}
 use Rattle.bar_box.specs.Sheet.{overlay}
 use Rattle.bar_box.specs.History.{pricesOf}
-use Rattle.bar_box.proofs.Overlay.{overlay-next}
+use Rattle.bar_box.proofs.Overlay.{overlay-more}
 
 pub length-prices : (bars : List Bar) → length (pricesOf bars) ≡ 4 * length bars
 unfolding pricesOf
@@ -30,21 +30,10 @@ bars-prices (b ∷ bars) = rw (bars-prices bars)
 
 -- the prices of one bar more
 pub overlay-bar : (s : List Float) (xs : List Bar) (i : ℕ) → i < length xs → 4 * (i + 1) ≤ length s
-    → let b = getD xs i noBar in
-    let at = 4 * i in
-    set (set (set (set (overlay s 0 (pricesOf (take i xs))) at (b .«open»)) (at + 1) (b .close)) (at + 2) (b .high)) (at + 3) (b .low)
-    ≡ overlay s 0 (pricesOf (take (i + 1) xs))
-unfolding pricesOf
+    → overlay (overlay s 0 (pricesOf (take i xs))) (4 * i) (pricesOf (getD xs i noBar ∷ [])) ≡ overlay s 0 (pricesOf (take (i + 1) xs))
 overlay-bar s xs i h room =
     let b = getD xs i noBar in
     let old = pricesOf (take i xs) in
     let n : length old ≡ 4 * i = length-prices (take i xs) ∙ ap (λ (k : ℕ). 4 * k) (length-take-le i xs (omega arith)) in
-    rw (
-      overlay-next s 0 old (b .«open») (4 * i) (omega arith) (omega arith),
-      overlay-next s 0 (old ++ (b .«open» ∷ [])) (b .close) (4 * i + 1) (rw length-append (omega arith)) (omega arith),
-      overlay-next s 0 (old ++ (b .«open» ∷ []) ++ (b .close ∷ [])) (b .high) (4 * i + 2) (rw (length-append, length-append) (omega arith)) (omega arith),
-      overlay-next s 0 (old ++ (b .«open» ∷ []) ++ (b .close ∷ []) ++ (b .high ∷ [])) (b .low) (4 * i + 3) (rw (length-append, length-append, length-append) (omega arith)) (omega arith),
-      add-one i,
-      take-suc xs i noBar h,
-      prices-append (take i xs) (b ∷ []),
-    ) (simp append-assoc)
+    let more = length-prices (b ∷ []) in
+    rw (add-one i, take-suc xs i noBar h, prices-append (take i xs) (b ∷ [])) (overlay-more s 0 old (pricesOf (b ∷ [])) (4 * i) (omega arith) (omega arith))

@@ -58,7 +58,7 @@ rows-one t n h b = append-nil (rowOf t (n + 1) (h ++ (b ∷ [])))
 -- ---- how far back a row reads
 
 -- the newest n bars of a run after a history hang on no more than its newest m, if these and the run are as many
-pub newest-append : (m n : ℕ) (h bars : List Bar) → n ≤ m + length bars → newest n (newest m h ++ bars) ≡ newest n (h ++ bars)
+pub newest-append : {A : Type 0} (m n : ℕ) (h bars : List A) → n ≤ m + length bars → newest n (newest m h ++ bars) ≡ newest n (h ++ bars)
 unfolding newest
 newest-append m n h bars enough =
     let d = length h - m in
@@ -68,7 +68,7 @@ newest-append m n h bars enough =
     rw (← drop-append-le d h bars (omega arith), length-drop d all, drop-drop (length all - d - n) d all, at)
 
 -- histories with the same newest m bars stay so after the same run
-pub near-append : (m n : ℕ) (g h bars : List Bar) → n ≤ m + length bars → newest m g ≡ newest m h → newest n (g ++ bars) ≡ newest n (h ++ bars)
+pub near-append : {A : Type 0} (m n : ℕ) (g h bars : List A) → n ≤ m + length bars → newest m g ≡ newest m h → newest n (g ++ bars) ≡ newest n (h ++ bars)
 near-append m n g h bars enough e = sym (newest-append m n g bars enough) ∙ rw e (newest-append m n h bars enough)
 
 -- a row over the newest 22 bars is the row

@@ -1,44 +1,64 @@
 -- "A feed reaches the box", "A look": the box, its making, a feed and a look, for every box that a caller can hand in.
 use Prim.Native.Nat.{ℕ, _+_, _/_, _%_}
-use mathlib.Core.List.{List, [], _∷_, _++_}
+use mathlib.Core.List.{List, [], _∷_, _++_, map}
 use lib.Dec.{eqb}
 use lib.ListN.{length, take, drop, replicate}
 use lib.Ieee.{Float}
 use Rattle.measures.specs.Bar.{Bar, barOf, barsOf}
 use Rattle.measures.specs.Price.{zero}
-use Rattle.measures.specs.Window.{newest}
+use Rattle.measures.specs.Window.{upTo, newest}
 use Rattle.recognisers.specs.Threshold.{Thresholds, standardSet}
 use Rattle.recognisers.specs.declared.call.Verdict.{Verdict}
 use Rattle.recognisers.specs.declared.call.Verdict.the-variants.{Accepted, Denied}
 use Rattle.recognisers.specs.declared.call.Answer.{Answer}
-use Rattle.recognisers.specs.declared.call.Answer.the-variants.{Labels}
+use Rattle.recognisers.specs.declared.call.Answer.the-variants.{Labels, Refused}
+use Rattle.recognisers.specs.declared.call.LookAnswer.{LookAnswer}
+use Rattle.recognisers.specs.declared.call.LookAnswer.the-variants as look
 use Rattle.recognisers.specs.Number.{places}
 use Rattle.recognisers.specs.Table.{pairAt}
 use Rattle.recognisers.specs.Refusal.{unknownRecogniser, zeroOffset, badThreshold, brokenBars, tooManyBars, shortSheet, farLook, firstTrue, answerTo}
+use Rattle.bar_box.specs.declared.boxes.KeptBar.{KeptBar}
 use Rattle.bar_box.specs.declared.boxes.BarBox.{BarBox}
 use Rattle.bar_box.specs.declared.boxes.Outcome.{Outcome}
 use Rattle.bar_box.specs.Sheet.{rowsOf, overlay}
 
 -- ---- the box
 
--- the bars that the box keeps: the newest 64 of the N fed, or all if fewer, oldest first from the first place
-abbrev pub kept : BarBox → List Bar
-kept b = take (b .count) (b .bars)
+-- the record that the box keeps: a bar and its ordinal
+abbrev pub keptBar : Bar → ℕ → KeptBar
+keptBar bar ordinal = record { bar = bar; ordinal = ordinal }
 
--- the places after a history: its newest 64 bars, then what the places past them held
-abbrev pub laid : List Bar → List Bar → List Bar
+-- the records of bars that follow n others: ordinals count from 1, in the order of the history
+unfoldable pub numbered : ℕ → List Bar → List KeptBar
+numbered n [] = []
+numbered n (b ∷ bars) = keptBar b (n + 1) ∷ numbered (n + 1) bars
+
+-- the bars of records
+abbrev pub barsIn : List KeptBar → List Bar
+barsIn records = map (λ (r : KeptBar). r .bar) records
+
+-- the records that the box keeps: of the newest 64 of the N bars fed, or of all if fewer, oldest first from the first place
+abbrev pub held : BarBox → List KeptBar
+held b = take (b .count) (b .bars)
+
+-- the bars that it keeps
+abbrev pub kept : BarBox → List Bar
+kept b = barsIn (held b)
+
+-- the places after a history: the records of its newest 64 bars, then what the places past them held
+abbrev pub laid : List KeptBar → List KeptBar → List KeptBar
 laid old history = newest places history ++ drop (length history) old
 
 -- the box after it took bars in
 abbrev pub takenIn : BarBox → List Bar → BarBox
-takenIn b bars = record { thresholds = b .thresholds; count = b .count + length bars; bars = laid (b .bars) (kept b ++ bars) }
+takenIn b bars = record { thresholds = b .thresholds; count = b .count + length bars; bars = laid (b .bars) (held b ++ numbered (b .count) bars) }
 
--- empty places hold zeros
-abbrev pub zeroBar : Bar
-zeroBar = barOf zero zero zero zero
+-- empty places hold zeros, ordinals too
+abbrev pub emptyPlace : KeptBar
+emptyPlace = keptBar (barOf zero zero zero zero) 0
 
-unfoldable pub emptyPlaces : List Bar
-emptyPlaces = replicate places zeroBar
+unfoldable pub emptyPlaces : List KeptBar
+emptyPlaces = replicate places emptyPlace
 
 -- a fresh box has no bars and its thresholds
 abbrev pub freshBox : Thresholds → BarBox
@@ -84,3 +104,12 @@ lookVerdict k di t n = firstTrue (unknownRecogniser k ∷ zeroOffset di ∷ badT
 -- the pair over the kept bars, with N for len, so that p = N − di + 1
 unfoldable pub lookOf : BarBox → ℕ → ℕ → Answer
 lookOf b k di = answerTo (lookVerdict k di (b .thresholds) (b .count)) (Labels (pairAt k (b .thresholds) (b .count) (kept b) di))
+
+-- a look also hands back the judged bar's ordinal; a refusal is its number alone
+abbrev pub withOrdinal : Answer → ℕ → LookAnswer
+withOrdinal (Labels pair) ordinal = look.Judged pair ordinal
+withOrdinal (Refused r) ordinal = look.Refused r
+
+-- the judged bar's ordinal is N − di + 1, or 0 where there is none, as p is; no ordinal of a record is read for it
+unfoldable pub lookAnswerOf : BarBox → ℕ → ℕ → LookAnswer
+lookAnswerOf b k di = withOrdinal (lookOf b k di) (upTo (b .count) di)

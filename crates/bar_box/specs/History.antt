@@ -1,23 +1,25 @@
 -- "What a list of feeds leaves": demand 3. The first part builds the plain history from what the feeds were lent; the second follows the
 -- calls; the third says how the two agree.
-use Prim.Native.Nat.{ℕ, _+_, _-_, _*_, _≤_, _<_}
+use Prim.Native.Nat.{ℕ, _+_, _-_, _*_, _≤_, _<_, min}
 use mathlib.Core.Path.{_≡_}
 use mathlib.Core.Bool.{true, cond}
 use mathlib.Core.List.{List, [], _∷_, _++_}
-use lib.ListN.{length, take, drop, replicate}
+use lib.ListN.{length, getD, take, drop, replicate}
 use lib.Ieee.{Float}
-use Rattle.measures.specs.Bar.{Bar, barsOf}
-use Rattle.measures.specs.Window.{newest}
+use Rattle.measures.specs.Bar.{Bar, noBar, barsOf}
+use Rattle.measures.specs.Window.{newest, backOf}
 use Rattle.recognisers.specs.Threshold.{Thresholds, standardSet, validOf}
 use Rattle.recognisers.specs.declared.call.Verdict.{Verdict}
 use Rattle.recognisers.specs.declared.call.Verdict.the-variants.{Accepted}
 use Rattle.recognisers.specs.declared.call.Answer.the-variants.{Labels}
 use Rattle.recognisers.specs.Number.{recognisers, rowBytes, gated, places, farthestLook}
 use Rattle.recognisers.specs.Table.{pairAt, codesOf}
-use Rattle.recognisers.specs.Refusal.{codesIn}
+use Rattle.recognisers.specs.Refusal.{codesIn, answerIn, ordinalIn}
+use Rattle.bar_box.specs.declared.boxes.KeptBar.{KeptBar}
 use Rattle.bar_box.specs.declared.boxes.BarBox.{BarBox}
 use Rattle.bar_box.specs.declared.boxes.Outcome.{Outcome}
-use Rattle.bar_box.specs.Box.{zeroBar, madeOf, feedVerdict, leaves, fedOf, sheetOf, lookOf}
+use Rattle.recognisers.specs.declared.call.LookAnswer.the-variants.{Judged}
+use Rattle.bar_box.specs.Box.{keptBar, numbered, emptyPlace, madeOf, feedVerdict, leaves, fedOf, sheetOf, lookOf, lookAnswerOf}
 
 -- what a feed is lent
 pub record Feed : Type 0 where
@@ -78,6 +80,13 @@ oneFeed history sheet = record { prices = pricesOf history; sheet = sheet }
 abbrev pub printed : List ℕ → ℕ → ℕ → List ℕ
 printed rows i k = take 2 (drop (rowBytes * i + 2 * k) rows)
 
+-- the bar of a history with an ordinal, and what the i-th place of a box holds, both from 1
+abbrev pub barWith : List Bar → ℕ → Bar
+barWith h ordinal = getD h (ordinal - 1) noBar
+
+abbrev pub inPlace : BarBox → ℕ → KeptBar
+inPlace b i = getD (b .bars) (i - 1) emptyPlace
+
 -- ---- what holds after a list of feeds fs to a box b without bars; h is the joined history, and sheet one that is long enough for it
 
 pub record Holds (b : BarBox) (fs : List Feed) (h : List Bar) (sheet : List ℕ) : Type 0 where
@@ -92,15 +101,31 @@ pub record Holds (b : BarBox) (fs : List Feed) (h : List Bar) (sheet : List ℕ)
   -- of bars up to it
   pub row-count : length (joinedRows b fs) ≡ rowBytes * length h
   pub pairs : (i k : ℕ) → i < length h → k < recognisers → printed (joinedRows b fs) i k ≡ codesOf (pairAt k (b .thresholds) (i + 1) (take (i + 1) h) 1 ∷ [])
-  -- (d) the final box has the fresh box's thresholds; its N is the history's count; its places hold the history's newest 64 bars, and what
-  -- they held where there are fewer
-  pub final-box : boxAfter b fs ≡ record { thresholds = b .thresholds; count = length h; bars = newest places h ++ drop (length h) (b .bars) }
+  -- (d) the final box has the fresh box's thresholds; its N is the history's count; its places hold the history's newest 64 bars with their
+  -- ordinals, and what they held where there are fewer
+  pub final-box : boxAfter b fs ≡ record { thresholds = b .thresholds; count = length h; bars = newest places (numbered 0 h) ++ drop (length h) (b .bars) }
   -- (e) a look at an offset from 1 to 43 within the history gives the printed pair of the bar that it judges, for every recogniser but 12
   pub look-printed : (di k : ℕ) → 1 ≤ di → di ≤ farthestLook → di ≤ length h → k < recognisers → (k ≡ gated → ⊥)
       → codesIn (lookOf (boxAfter b fs) k di) ≡ printed (joinedRows b fs) (length h - di) k
   -- (f) it gives, for 12 as for all, the pair of the rule at that offset over the whole history, with the history's count for len
   pub look-whole : (di k : ℕ) → 1 ≤ di → di ≤ farthestLook → di ≤ length h → k < recognisers
       → lookOf (boxAfter b fs) k di ≡ Labels (pairAt k (b .thresholds) (length h) h di)
+  -- (g) the i-th kept place, from 1, holds the bar with ordinal N − kept + i
+  pub ordinals : (i : ℕ) → 1 ≤ i → i ≤ min (length h) places
+      → let ordinal = length h - min (length h) places + i in inPlace (boxAfter b fs) i ≡ keptBar (barWith h ordinal) ordinal
+  -- (h) what a look at 1 to 43 within the history hands back in full: the ordinal is that of the bar that it judges, the di-th from the end
+  pub look-in-full : (di k : ℕ) → 1 ≤ di → di ≤ farthestLook → di ≤ length h → k < recognisers
+      → lookAnswerOf (boxAfter b fs) k di ≡ Judged (pairAt k (b .thresholds) (length h) h di) (length h - di + 1)
+  -- (i) that bar is the one with this ordinal in the history
+  pub look-judges : (di k : ℕ) → 1 ≤ di → di ≤ farthestLook → di ≤ length h → k < recognisers → barWith h (ordinalIn (lookAnswerOf (boxAfter b fs) k di)) ≡ backOf h di
+  -- (j) the box keeps it with this ordinal, in the place that is the di-th from the last kept one
+  pub look-kept : (di k : ℕ) → 1 ≤ di → di ≤ farthestLook → di ≤ length h → k < recognisers
+      → let ordinal = ordinalIn (lookAnswerOf (boxAfter b fs) k di) in inPlace (boxAfter b fs) (min (length h) places - di + 1) ≡ keptBar (backOf h di) ordinal
+  -- (k) its row was printed as that many-th: the pair is the printed one there, for every recogniser but 12
+  pub look-row : (di k : ℕ) → 1 ≤ di → di ≤ farthestLook → di ≤ length h → k < recognisers → (k ≡ gated → ⊥)
+      → let seen = lookAnswerOf (boxAfter b fs) k di in codesIn (answerIn seen) ≡ printed (joinedRows b fs) (ordinalIn seen - 1) k
+  -- (l) an offset beyond the history has no judged bar, and the ordinal is 0
+  pub look-beyond : (di k : ℕ) → length h < di → ordinalIn (lookAnswerOf (boxAfter b fs) k di) ≡ 0
 
 -- a box without bars, as made or as a caller filled it: N is 0, whatever its thresholds and its 64 places hold
 pub record NoBars (b : BarBox) : Type 0 where
@@ -113,11 +138,11 @@ pub record Fresh (t : Thresholds) (b : BarBox) : Type 0 where
   pub no-bars : NoBars b
   pub thresholds : b .thresholds ≡ cond (validOf t) t standardSet
   pub valid : validOf (b .thresholds) ≡ true
-  pub zeros : b .bars ≡ replicate places zeroBar
+  pub zeros : b .bars ≡ replicate places emptyPlace
 
 -- after the feeds the places that no bar took still hold zeros
 abbrev pub ZerosLeft : BarBox → List Feed → List Bar → Type 0
-ZerosLeft b fs h = boxAfter b fs .bars ≡ newest places h ++ replicate (places - length h) zeroBar
+ZerosLeft b fs h = boxAfter b fs .bars ≡ newest places (numbered 0 h) ++ replicate (places - length h) emptyPlace
 
 -- for every list of feeds: over every box without bars, and over the box made with any thresholds
 pub record Demand3 : Type 0 where

@@ -6,28 +6,37 @@ use recognisers::Thresholds;
 use recognisers::call::Refusal;
 use recognisers::call::Verdict;
 
+// What a place holds: a bar and its ordinal, from 1 in the order of the history.
+pub struct KeptBar {
+    pub bar: Bar,
+    pub ordinal: u32,
+}
+
 // The thresholds, the count N of bars fed, and the newest 64 of them, oldest first from the first place; empty places hold zeros.
 pub struct BarBox {
     pub thresholds: Thresholds,
     pub count: u32,
-    pub bars: [Bar; 64],
+    pub bars: [KeptBar; 64],
 }
 
-// Whether a call is refused, and the box after it.
+// The box after a call, and whether it is refused. The box stands first: behind the verdict a feed would copy it once more.
 pub struct Outcome {
-    pub verdict: Verdict,
     pub after: BarBox,
+    pub verdict: Verdict,
 }
 
 // A box without bars.
 fn fresh(thresholds: Thresholds) -> BarBox
     ensures { λ r. ⌜ r ≡ freshBox thresholds ⌝ }
 {
-    let zeros = Bar {
-        open: 0.0,
-        close: 0.0,
-        high: 0.0,
-        low: 0.0,
+    let zeros = KeptBar {
+        bar: Bar {
+            open: 0.0,
+            close: 0.0,
+            high: 0.0,
+            low: 0.0,
+        },
+        ordinal: 0,
     };
     BarBox {
         thresholds,

@@ -1,18 +1,17 @@
 // A feed.
 ghost use mathlib.Core.Path.{_≡_};
-ghost use mathlib.Core.List.{_++_};
+ghost use mathlib.Core.Bool.{cond};
 ghost use Prim.Native.Nat.{_+_, _*_, _/_, _%_, _≤_};
+ghost use lib.Dec.{eqb};
 ghost use lib.ListN.{length, take};
 ghost use Rattle.measures.specs.Bar.{barsOf};
-ghost use Rattle.measures.specs.Window.{newest};
-ghost use Rattle.bar_box.specs.Sheet.{before, rowsOf, overlay};
-ghost use Rattle.bar_box.specs.Box.{laid, feedVerdict, fedOf, sheetOf};
+ghost use Rattle.bar_box.specs.Sheet.{rowsOf, overlay};
+ghost use Rattle.bar_box.specs.Box.{kept, takenIn, feedVerdict, leaves, fedOf, sheetOf};
 use crate::boxes::BarBox;
 use crate::boxes::Outcome;
 use crate::runs;
 use crate::sheets;
 use crate::sheets::BEFORE;
-use measures::Bar;
 use measures::least;
 use recognisers::Thresholds;
 use recognisers::call::Refusal;
@@ -42,70 +41,92 @@ pub fn feed_verdict(t: Thresholds, n: u32, prices: usize, sheet: usize) -> Verdi
     Verdict::Accepted
 }
 
-// The places after the lent bars are taken in: the newest 64 bars, then what the places past them held. Each bar moves once a feed.
-fn lay(bars: [Bar; 64], count: u32, prices: &[f64]) -> [Bar; 64]
-    ensures { λ r. ⌜ r ≡ laid bars (take count bars ++ barsOf (now (prices .entry))) ⌝ }
+// Writes the rows of the lent bars, which follow count others; the newest of these stand at the front of the run, old of them. Those that a
+// rule's window may begin before are labelled over the run, where they come behind those, the others straight over the lent prices.
+fn label(t: Thresholds, count: u32, run: &mut [f64], old: usize, prices: &[f64], sheet: &mut [u8])
+    requires { ⌜ (168 ≤ length (now run)) × (old ≤ 21) × (count + length (barsOf (now prices)) ≤ 4294967295) × (36 * length (barsOf (now prices)) ≤ length (now sheet)) ⌝ }
+    ensures { λ _. ⌜ now (sheet .exit) ≡ overlay (now (sheet .entry)) 0 (rowsOf t count (take old (barsOf (now (run .entry)))) (barsOf (now (prices .entry)))) ⌝ }
 {
-    let n = measures::count(prices);
-    let kept = least(count as usize, PLACES);
-    let new = least(n, PLACES);
-    let stay = least(kept, PLACES - new);
-    let moved = runs::move_bars(bars, kept - stay, stay);
-    runs::lay_bars(moved, stay, prices, n - new, new)
-}
-
-// The prices of the newest 21 kept bars and of the first 21 lent ones, which are all that a rule sees at those lent bars, go to the front
-// of a run; the answer is how many prices there are.
-fn join(bars: [Bar; 64], count: u32, prices: &[f64], run: &mut [f64]) -> usize
-    requires { ⌜ 168 ≤ length (now run) ⌝ }
-    ensures { λ r. ⌜ (r ≤ 168) × (barsOf (take r (now (run .exit))) ≡ newest before (take count bars) ++ take before (barsOf (now (prices .entry)))) ⌝ }
-{
-    let kept = least(count as usize, PLACES);
-    let old = least(kept, BEFORE);
     let new = least(measures::count(prices), BEFORE);
-    runs::put_bars(bars, kept - old, old, run);
     runs::put_prices(prices, 4 * new, run, 4 * old);
-    4 * old + 4 * new
-}
-
-// Writes the rows of the lent bars. Those that a rule's window may begin before are labelled over a run of the newest kept bars and
-// themselves, the others straight over the lent prices.
-fn label(t: Thresholds, count: u32, bars: [Bar; 64], prices: &[f64], sheet: &mut [u8])
-    requires { ⌜ (count + length (barsOf (now prices)) ≤ 1000000) × (36 * length (barsOf (now prices)) ≤ length (now sheet)) ⌝ }
-    ensures { λ _. ⌜ now (sheet .exit) ≡ overlay (now (sheet .entry)) 0 (rowsOf t count (take count bars) (barsOf (now (prices .entry)))) ⌝ }
-{
-    // room for 42 bars
-    let mut run = [0.0; 168];
-    let end = join(bars, count, prices, &mut run);
-    let old = least(least(count as usize, PLACES), BEFORE);
-    let new = least(measures::count(prices), BEFORE);
+    let end = 4 * old + 4 * new;
     sheets::label_run(t, &run[..end], old, count as usize, sheet, 0);
     sheets::label_run(t, prices, new, count as usize + new, sheet, ROW_BYTES * new);
 }
 
-// Takes the lent bars in and writes a row for each, or refuses and leaves box and sheet as they were.
-pub fn feed(b: BarBox, prices: &[f64], sheet: &mut [u8]) -> Outcome
-    ensures { λ r. ⌜ (r ≡ fedOf b (now (prices .entry)) (length (now (sheet .entry)))) × (now (sheet .exit) ≡ sheetOf b (now (prices .entry)) (now (sheet .entry))) ⌝ }
+// How many of the bars that stay move by just one place.
+fn by_one(gone: usize, stay: usize) -> usize
+    ensures { λ r. ⌜ r ≡ cond (eqb gone 1) stay 0 ⌝ }
+{
+    if gone == 1 { stay } else { 0 }
+}
+
+// Writes the rows of the lent bars and takes them in: the newest 64 bars, then what the places past them held. One function goes through
+// the places, since a box that is handed on is copied.
+fn take_in(b: BarBox, prices: &[f64], sheet: &mut [u8]) -> BarBox
+    requires { ⌜ (b .count + length (barsOf (now prices)) ≤ 4294967295) × (36 * length (barsOf (now prices)) ≤ length (now sheet)) ⌝ }
+    ensures { λ r. ⌜ (r ≡ takenIn b (barsOf (now (prices .entry)))) × (now (sheet .exit) ≡ overlay (now (sheet .entry)) 0 (rowsOf (b .thresholds) (b .count) (kept b) (barsOf (now (prices .entry))))) ⌝ }
 {
     let t = b.thresholds;
     let count = b.count;
-    match feed_verdict(t, count, prices.len(), sheet.len()) {
-        Verdict::Denied(why) => Outcome {
-            verdict: Verdict::Denied(why),
-            after: b,
-        },
-        Verdict::Accepted => {
-            let old = b.bars;
-            label(t, count, old, prices, sheet);
-            let bars = lay(old, count, prices);
-            Outcome {
-                verdict: Verdict::Accepted,
-                after: BarBox {
-                    thresholds: t,
-                    count: count + measures::count(prices) as u32,
-                    bars,
-                },
-            }
-        }
+    let mut after = b;
+    let kept = least(count as usize, PLACES);
+    let old = least(kept, BEFORE);
+    let from = kept - old;
+    // room for 42 bars
+    let mut run = [0.0; 168];
+    let mut i = 0usize;
+    while i < old {
+        let place = after.bars[from + i];
+        let bar = place.bar;
+        runs::put_bar(bar, &mut run, i);
+        i += 1;
     }
+    label(t, count, &mut run, old, prices, sheet);
+    let n = measures::count(prices);
+    let new = least(n, PLACES);
+    let stay = least(kept, PLACES - new);
+    let gone = kept - stay;
+    // over a distance that is known the compiler moves all places at once
+    let near = by_one(gone, stay);
+    let mut j = 0usize;
+    while j < near {
+        let next = after.bars[j + 1];
+        after.bars[j] = next;
+        j += 1;
+    }
+    while j < stay {
+        let next = after.bars[j + gone];
+        after.bars[j] = next;
+        j += 1;
+    }
+    let first = n - new;
+    let mut k = 0usize;
+    while k < new {
+        let next = runs::numbered_bar(prices, first + k, count);
+        after.bars[stay + k] = next;
+        k += 1;
+    }
+    after.count = count + n as u32;
+    after
+}
+
+// How many of the lent prices are taken in: all, or none if the feed is refused.
+fn taken(v: Verdict, prices: usize) -> usize
+    ensures { λ r. ⌜ r ≡ leaves v 0 prices ⌝ }
+{
+    match v {
+        Verdict::Accepted => prices,
+        Verdict::Denied(_) => 0,
+    }
+}
+
+// Takes the lent bars in and writes a row for each, or refuses and leaves box and sheet as they were: a refused feed takes no bar.
+pub fn feed(b: BarBox, prices: &[f64], sheet: &mut [u8]) -> Outcome
+    ensures { λ r. ⌜ (r ≡ fedOf b (now (prices .entry)) (length (now (sheet .entry)))) × (now (sheet .exit) ≡ sheetOf b (now (prices .entry)) (now (sheet .entry))) ⌝ }
+{
+    let verdict = feed_verdict(b.thresholds, b.count, prices.len(), sheet.len());
+    let end = taken(verdict, prices.len());
+    let after = take_in(b, &prices[..end], sheet);
+    Outcome { after, verdict }
 }

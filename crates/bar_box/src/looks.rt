@@ -2,12 +2,14 @@
 ghost use mathlib.Core.Path.{_≡_};
 ghost use lib.ListN.{take};
 ghost use Rattle.recognisers.specs.Table.{pairAt};
-ghost use Rattle.bar_box.specs.Box.{lookVerdict, lookOf};
+ghost use Rattle.measures.specs.Window.{upTo};
+ghost use Rattle.bar_box.specs.Box.{barsIn, lookVerdict, lookAnswerOf};
 use crate::boxes::BarBox;
+use crate::boxes::KeptBar;
 use crate::runs;
-use measures::Bar;
 use measures::least;
-use recognisers::Answer;
+use measures::up_to;
+use recognisers::LookAnswer;
 use recognisers::Pair;
 use recognisers::Thresholds;
 use recognisers::call::Refusal;
@@ -39,8 +41,8 @@ fn look_verdict(k: u32, di: u32, t: Thresholds, n: u32) -> Verdict
 }
 
 // The pair of a recogniser at an offset of the kept bars, with the box's count for len.
-fn pair_back(t: Thresholds, count: u32, bars: [Bar; 64], k: u32, di: u32) -> Pair
-    ensures { λ r. ⌜ r ≡ pairAt k t count (take count bars) di ⌝ }
+fn pair_back(t: Thresholds, count: u32, bars: [KeptBar; 64], k: u32, di: u32) -> Pair
+    ensures { λ r. ⌜ r ≡ pairAt k t count (barsIn (take count bars)) di ⌝ }
 {
     let kept = least(count as usize, counts::PLACES);
     let mut run = [0.0; 256];
@@ -49,15 +51,25 @@ fn pair_back(t: Thresholds, count: u32, bars: [Bar; 64], k: u32, di: u32) -> Pai
     table::pair_at(k, t, count as usize, &run[..end], di as usize)
 }
 
-// The pair of a recogniser at an offset from the newest bar; the box stays.
-pub fn look(b: BarBox, k: u32, di: u32) -> Answer
-    ensures { λ r. ⌜ r ≡ lookOf b k di ⌝ }
+// The ordinal of the bar that an offset judges of n bars fed: the number of bars up to it.
+fn judged_ordinal(n: u32, di: u32) -> u32
+    ensures { λ r. ⌜ r ≡ upTo n di ⌝ }
+{
+    up_to(n as usize, di as usize) as u32
+}
+
+// The pair of a recogniser at an offset from the newest bar, and the judged bar's ordinal; the box stays.
+pub fn look(b: BarBox, k: u32, di: u32) -> LookAnswer
+    ensures { λ r. ⌜ r ≡ lookAnswerOf b k di ⌝ }
 {
     match look_verdict(k, di, b.thresholds, b.count) {
-        Verdict::Denied(why) => Answer::Refused(why),
+        Verdict::Denied(why) => LookAnswer::Refused(why),
         Verdict::Accepted => {
             let bars = b.bars;
-            Answer::Labels(pair_back(b.thresholds, b.count, bars, k, di))
+            LookAnswer::Judged {
+                pair: pair_back(b.thresholds, b.count, bars, k, di),
+                ordinal: judged_ordinal(b.count, di),
+            }
         }
     }
 }

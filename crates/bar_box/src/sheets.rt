@@ -42,7 +42,7 @@ pub(crate) fn label_run(
     sheet: &mut [u8],
     at: usize,
 )
-    requires { ⌜ (first ≤ length (barsOf (now prices))) × ((len + (length (barsOf (now prices)) - first) ≤ 1000000) × (at + 36 * (length (barsOf (now prices)) - first) ≤ length (now sheet))) ⌝ }
+    requires { ⌜ (first ≤ length (barsOf (now prices))) × ((len + (length (barsOf (now prices)) - first) ≤ 4294967295) × (at + 36 * (length (barsOf (now prices)) - first) ≤ length (now sheet))) ⌝ }
     ensures { λ _. ⌜ now (sheet .exit) ≡ overlay (now (sheet .entry)) at (rowsOf t len (take first (barsOf (now (prices .entry)))) (drop first (barsOf (now (prices .entry))))) ⌝ }
 {
     let n = measures::count(prices) - first;

@@ -1,7 +1,11 @@
 // Digests: equal things have equal ones, and things that differ nearly always do not.
 use bar_box::BarBox;
+use bar_box::KeptBar;
 use measures::Bar;
 use measures::least;
+use recognisers::LookAnswer;
+use recognisers::call::answer_in;
+use recognisers::call::ordinal_in;
 use recognisers::export::answer_number;
 
 // The largest prime below 2^32, and what a digest is multiplied by at each step: no product reaches 2^64.
@@ -32,20 +36,30 @@ fn mix_price(d: u64, x: f64) -> u64 {
     mix(mix(d, bits / WORD), bits)
 }
 
-pub fn mix_bar(d: u64, bar: Bar) -> u64 {
+fn mix_bar(d: u64, bar: Bar) -> u64 {
     let open = mix_price(d, bar.open);
     let close = mix_price(open, bar.close);
     let high = mix_price(close, bar.high);
     mix_price(high, bar.low)
 }
 
-// Of the bars in the places from one on, before another.
-pub fn of_places(bars: [Bar; 64], from: usize, to: usize) -> u64 {
+// A digest after what a place holds.
+pub fn mix_place(d: u64, bar: Bar, ordinal: u64) -> u64 {
+    mix(mix_bar(d, bar), ordinal)
+}
+
+fn mix_kept(d: u64, place: KeptBar) -> u64 {
+    let bar = place.bar;
+    mix_place(d, bar, place.ordinal as u64)
+}
+
+// Of what the places hold from one on, before another.
+pub fn of_places(bars: [KeptBar; 64], from: usize, to: usize) -> u64 {
     let end = least(to, 64);
     let mut d = 1;
     let mut i = from;
     while i < end {
-        d = mix_bar(d, bars[i]);
+        d = mix_kept(d, bars[i]);
         i += 1;
     }
     d
@@ -67,15 +81,21 @@ pub fn of_bytes(s: &[u8]) -> u64 {
     d
 }
 
+// A digest after what a look answers, as a number, and its ordinal.
+pub fn mix_look(d: u64, number: u32, ordinal: u64) -> u64 {
+    mix(mix(d, number as u64), ordinal)
+}
+
+fn mix_answer(d: u64, a: LookAnswer) -> u64 {
+    mix_look(d, answer_number(answer_in(a)), ordinal_in(a) as u64)
+}
+
 // Of all that can be seen by looking.
 pub fn of_looks(b: BarBox) -> u64 {
     let mut d = 1;
     let mut i = 0u32;
     while i < LOOKS {
-        d = mix(
-            d,
-            answer_number(bar_box::look(b, i / OFFSETS, i % OFFSETS)) as u64,
-        );
+        d = mix_answer(d, bar_box::look(b, i / OFFSETS, i % OFFSETS));
         i += 1;
     }
     d

@@ -7,7 +7,10 @@ use crate::digest::of_bytes;
 use crate::digest::of_places;
 use crate::print;
 use bar_box::BarBox;
+use recognisers::LookAnswer;
 use recognisers::Thresholds;
+use recognisers::call::answer_in;
+use recognisers::call::ordinal_in;
 use recognisers::export::answer_number;
 
 // The standard set but for the i-th threshold: x where that is a float, else n.
@@ -70,21 +73,34 @@ pub fn write_places(b: BarBox) {
     print::digest(b", 13 to 63 ", of_places(bars, 13, 64));
 }
 
+// The judged bar's ordinal; a refused look has none.
+fn write_ordinal(a: LookAnswer) {
+    if answer_number(answer_in(a)) < 65536 {
+        print::number(b" ordinal ", ordinal_in(a) as u64);
+    }
+}
+
 pub fn write_look(b: BarBox, k: u32, di: u32) {
-    let n = answer_number(bar_box::look(b, k, di)) as u64;
+    let a = bar_box::look(b, k, di);
+    let n = answer_number(answer_in(a)) as u64;
     if 65536 <= n {
         print::number(b": refused ", n - 65536);
     } else {
         print::number(b": v1 ", n / 256);
         print::number(b" v2 ", n % 256);
     }
+    write_ordinal(a);
 }
 
-// Every recogniser at an offset, v1 × 256 + v2.
+// Every recogniser at an offset, v1 × 256 + v2, then the ordinal, which is the last one's: it is the same for all.
 pub fn write_looks(b: BarBox, di: u32) {
     let mut k = 0u32;
     while k < 18 {
-        print::number(b" ", answer_number(bar_box::look(b, k, di)) as u64);
+        print::number(
+            b" ",
+            answer_number(answer_in(bar_box::look(b, k, di))) as u64,
+        );
         k += 1;
     }
+    write_ordinal(bar_box::look(b, 17, di));
 }

@@ -13,7 +13,7 @@
 //   same                  whether each cut since the plain calls left what they give
 //   thresholds F N        the verdicts on thirteen makings, each with one threshold changed: to F if it is a float, else to N
 //   make F                a box: that of a making with th8 = F, which is 2.00 in the standard set
-//   occupied F            a box that counts no bars and whose places hold F
+//   occupied F            a box that counts no bars and whose places hold F and the ordinal 7
 //   grow N                the box after a feed of the history's first N bars
 //   edit F N              the box with th8 = F and a count of N, as a caller can fill it in
 //   feed N N N            a feed of the history's prices from one on, before another, that is lent so many bytes of a sheet
@@ -32,6 +32,7 @@ mod print;
 mod script;
 
 use bar_box::BarBox;
+use bar_box::KeptBar;
 use cuts::BARS;
 use cuts::Cut;
 use cuts::Left;
@@ -47,6 +48,9 @@ use script::float;
 const PRICES: usize = 4 * BARS;
 
 const WORD: u64 = 0x1_0000_0000;
+
+// A wrong ordinal, which a caller has put into every place.
+const FILLED: u32 = 7;
 
 struct History {
     prices: [f64; PRICES],
@@ -111,6 +115,25 @@ fn history_after(h: History, line: Line) -> History {
     }
 }
 
+// A box without bars, as a caller can fill it.
+fn occupied(x: f64) -> BarBox {
+    let bar = Bar {
+        open: x,
+        close: x,
+        high: x,
+        low: x,
+    };
+    let place = KeptBar {
+        bar,
+        ordinal: FILLED,
+    };
+    BarBox {
+        thresholds: Thresholds::standard(),
+        count: 0,
+        bars: [place; 64],
+    }
+}
+
 // The box after a step.
 fn box_after(held: BarBox, line: Line, prices: &[f64]) -> BarBox {
     let letter = line.letter;
@@ -120,20 +143,7 @@ fn box_after(held: BarBox, line: Line, prices: &[f64]) -> BarBox {
             let made = bar_box::make(limits::changed(8, float(line.d), 0));
             made.after
         }
-        b'o' => {
-            let x = float(line.d);
-            let place = Bar {
-                open: x,
-                close: x,
-                high: x,
-                low: x,
-            };
-            BarBox {
-                thresholds: Thresholds::standard(),
-                count: 0,
-                bars: [place; 64],
-            }
-        }
+        b'o' => occupied(float(line.d)),
         b'e' => BarBox {
             thresholds: limits::changed(8, float(line.c), 0),
             count: (line.d % WORD) as u32,

@@ -1,11 +1,13 @@
-// What a history leaves, told without a box: its rows and looks by the plain call over all its bars, its places by their prices.
+// What a history leaves, told without a box: its rows and looks by the plain call over all its bars, its places by their prices, and all
+// ordinals by how many bars it has.
 use crate::cuts::BARS;
 use crate::cuts::Left;
 use crate::cuts::SHEET;
 use crate::digest::LOOKS;
 use crate::digest::OFFSETS;
 use crate::digest::mix;
-use crate::digest::mix_bar;
+use crate::digest::mix_look;
+use crate::digest::mix_place;
 use crate::digest::of_bytes;
 use measures::Bar;
 use measures::least;
@@ -49,11 +51,22 @@ fn bar_in(prices: &[f64], place: usize) -> Bar {
     }
 }
 
+// The ordinal there, from 1 for the first bar of all; an empty place holds 0.
+fn ordinal_in(prices: &[f64], place: usize) -> u64 {
+    let n = measures::count(prices);
+    let kept = least(n, 64);
+    if place < kept {
+        (n - kept + place + 1) as u64
+    } else {
+        0
+    }
+}
+
 fn of_places(prices: &[f64]) -> u64 {
     let mut d = 1;
     let mut i = 0usize;
     while i < 64 {
-        d = mix_bar(d, bar_in(prices, i));
+        d = mix_place(d, bar_in(prices, i), ordinal_in(prices, i));
         i += 1;
     }
     d
@@ -67,11 +80,28 @@ fn look(prices: &[f64], k: u32, di: u32) -> u32 {
     call(prices, k, di)
 }
 
+// The judged bar's ordinal: the newest of n bars has n. There is none past the first bar, and a refused look judges no bar.
+fn ordinal_back(prices: &[f64], di: u32) -> u64 {
+    let n = measures::count(prices);
+    let back = di as usize;
+    if back == 0 {
+        return 0;
+    }
+    if 43 < back {
+        return 0;
+    }
+    if n < back {
+        return 0;
+    }
+    (n - back + 1) as u64
+}
+
 fn of_looks(prices: &[f64]) -> u64 {
     let mut d = 1;
     let mut i = 0u32;
     while i < LOOKS {
-        d = mix(d, look(prices, i / OFFSETS, i % OFFSETS) as u64);
+        let di = i % OFFSETS;
+        d = mix_look(d, look(prices, i / OFFSETS, di), ordinal_back(prices, di));
         i += 1;
     }
     d

@@ -1,6 +1,6 @@
 -- A feed of a part of the prices on its part of the sheet, and feeds of parts one after the other. Assumes nothing.
 use Prim.Native.Nat.{ℕ, _+_, _-_, _*_, _≤_}
-use mathlib.Core.Path.{_≡_, _∙_}
+use mathlib.Core.Path.{_≡_, refl, ap, _∙_}
 use mathlib.Core.List.{List, _++_, append-assoc, append-nil}
 use native.Mathlib.Omega.{arith}
 use native.Mathlib.Nat.{zero-add}
@@ -9,19 +9,25 @@ use lib.ListN.{length, take, drop, length-take, length-drop, drop-of-length-le}
 use lib.Seq.{take-all, take-add, length-take-le, drop-drop}
 use lib.Ieee.{Float}
 use Rattle.measures.specs.Bar.{Bar, barsOf}
-use Rattle.measures.specs.Window.{newest}
+use Rattle.measures.specs.Window.{upTo, newest}
 use Rattle.measures.proofs.RunLaws.{length-bars, bars-drop, bars-take}
 use Rattle.recognisers.specs.Threshold.{Thresholds}
-use Rattle.recognisers.specs.declared.call.Verdict.the-variants.{Accepted}
+use Rattle.recognisers.specs.declared.call.Verdict.{Verdict}
+use Rattle.recognisers.specs.declared.call.Verdict.the-variants.{Accepted, Denied}
+use Rattle.recognisers.specs.declared.call.Answer.{Answer}
+use Rattle.recognisers.specs.declared.call.Answer.the-variants.{Labels, Refused}
 use Rattle.recognisers.specs.Number.{places}
-use Rattle.recognisers.specs.Refusal.{firstTrue}
+use Rattle.recognisers.specs.Refusal.{firstTrue, answerTo, answerIn}
+use Rattle.recognisers.specs.Export.{resultOf}
 use Rattle.bar_box.specs.declared.boxes.BarBox.{BarBox}
+use Rattle.recognisers.specs.declared.call.LookAnswer.{LookAnswer}
 use Rattle.bar_box.specs.Sheet.{before, rowsOf, overlay}
-use Rattle.bar_box.specs.Box.{freshBox, madeOf, kept, takenIn, feedVerdict, fedOf, sheetOf}
+use Rattle.bar_box.specs.Box.{freshBox, madeOf, kept, takenIn, feedVerdict, fedOf, sheetOf, lookOf, withOrdinal, lookAnswerOf}
 use Rattle.bar_box.proofs.SheetLaws.{length-rows, rows-append, rows-near}
 use Rattle.bar_box.proofs.BoxLaws.{newest-newest, kept-taken, taken-append}
 use Rattle.bar_box.proofs.FeedSteps.{fits, accepts}
 use Rattle.bar_box.proofs.Overlay.{overlay-more}
+use Rattle.feeds.specs.Result.{oneFed, lookResult, lookTo, lookAfter}
 
 -- ---- a part of the prices and of the sheet
 
@@ -147,3 +153,23 @@ module _ (b : BarBox) (ps : List Float) (sheet passed n : ℕ) (e : feedVerdict 
 pub made-fresh : (t : Thresholds) (n prices sheet : ℕ) → feedVerdict t n prices sheet ≡ Accepted → madeOf t .after ≡ freshBox t
 unfolding madeOf firstTrue
 made-fresh t n prices sheet e = simp (fits t n prices sheet e .valid)
+
+-- ---- the look after the feeds
+
+-- the answer in what a look hands back is the pair or the refusal
+answer-with : (a : Answer) (ordinal : ℕ) → answerIn (withOrdinal a ordinal) ≡ a
+answer-with (Labels pair) ordinal = refl
+answer-with (Refused r) ordinal = refl
+
+-- of a refused feed too
+answer-after : (v : Verdict) (a : LookAnswer) → answerIn (lookTo v a) ≡ answerTo v (answerIn a)
+answer-after Accepted a = refl
+answer-after (Denied r) a = refl
+
+-- so its number is that of a look that gives the labels alone
+pub look-number : (k di : ℕ) (t : Thresholds) (ps : List Float) (sheet : ℕ) → resultOf (answerIn (lookAfter k di t ps sheet)) ≡ lookResult k di t ps sheet
+unfolding lookAfter lookResult lookAnswerOf
+look-number k di t ps sheet =
+    let o = oneFed t ps sheet in
+    let look = lookOf (o .after) k di in
+    ap resultOf (answer-after (o .verdict) (withOrdinal look (upTo (o .after .count) di)) ∙ ap (answerTo (o .verdict)) (answer-with look (upTo (o .after .count) di)))

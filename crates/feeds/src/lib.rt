@@ -1,4 +1,5 @@
-// Exports for the benchmark and the comparison: a history in feeds of any sizes to one box, and a look after them. All is proved,
+// Exports for the benchmark and the comparison: a history in feeds of any sizes to one box, and a look after them, of which one export gives
+// the labels and another the judged bar's ordinal. All is proved,
 // nothing is assumed, and no public function has a `requires`.
 ghost use mathlib.Core.Path.{_≡_};
 ghost use Prim.Native.Nat.{_+_, _*_, _≤_};
@@ -8,13 +9,15 @@ ghost use Rattle.recognisers.specs.declared.call.Verdict.the-variants.{Accepted
 ghost use Rattle.recognisers.specs.Threshold.{thresholdsOf};
 ghost use Rattle.bar_box.specs.Sheet.{rowsOf, overlay};
 ghost use Rattle.bar_box.specs.Box.{freshBox, kept, takenIn, feedVerdict, sheetOf};
-ghost use Rattle.feeds.specs.Result.{oneFed, verdictNumber, lookResult};
+ghost use Rattle.feeds.specs.Result.{oneFed, verdictNumber, lookAfter, lookResult, lookOrdinal};
 use bar_box::BarBox;
 use bar_box::feeds::feed_verdict;
 use measures::least;
-use recognisers::Answer;
+use recognisers::LookAnswer;
 use recognisers::Thresholds;
 use recognisers::call::Verdict;
+use recognisers::call::answer_in;
+use recognisers::call::ordinal_in;
 use recognisers::call::refusal_number;
 use recognisers::counts::ROW_BYTES;
 use recognisers::export::answer_number;
@@ -99,6 +102,28 @@ pub extern "C" fn jcc_feed(
     }
 }
 
+// The same feeds, then one look at the box that they leave, which answers for a refused feed too.
+fn look_after(
+    recogniser: u32,
+    offset: u32,
+    t: Thresholds,
+    sizes: &[u32],
+    prices: &[f64],
+    sheet: &mut [u8],
+) -> LookAnswer
+    ensures { λ r. ⌜ (r ≡ lookAfter recogniser offset t (now (prices .entry)) (length (now (sheet .entry)))) × (now (sheet .exit) ≡ sheetOf (freshBox t) (now (prices .entry)) (now (sheet .entry))) ⌝ }
+{
+    match feed_verdict(t, 0, prices.len(), sheet.len()) {
+        Verdict::Denied(why) => LookAnswer::Refused(why),
+        Verdict::Accepted => {
+            let made = bar_box::make(t);
+            let b = made.after;
+            let after = feed_parts(b, sizes, prices, sheet);
+            bar_box::look(after, recogniser, offset)
+        }
+    }
+}
+
 // The same feeds, then one look: v1 × 256 + v2, or 65,536 plus the refusal of the feed or of the look.
 #[no_mangle]
 pub extern "C" fn jcc_look(
@@ -139,13 +164,50 @@ pub extern "C" fn jcc_look(
         th13,
         th14,
     );
-    match feed_verdict(t, 0, prices.len(), sheet.len()) {
-        Verdict::Denied(why) => answer_number(Answer::Refused(why)),
-        Verdict::Accepted => {
-            let made = bar_box::make(t);
-            let b = made.after;
-            let after = feed_parts(b, sizes, prices, sheet);
-            answer_number(bar_box::look(after, recogniser, offset))
-        }
-    }
+    let found = look_after(recogniser, offset, t, sizes, prices, sheet);
+    answer_number(answer_in(found))
+}
+
+// The same feeds, then one look: the judged bar's ordinal, or 0 where there is none or the feed or the look is refused.
+#[no_mangle]
+pub extern "C" fn jcc_look_ordinal(
+    recogniser: u32,
+    offset: u32,
+    th0: f64,
+    z2: u32,
+    th2: u32,
+    z3: u32,
+    th3: u32,
+    zdf5: u32,
+    th6: u32,
+    zdf7: u32,
+    th8: f64,
+    zf8: u32,
+    th10: u32,
+    th13: u32,
+    th14: u32,
+    sizes: &[u32],
+    prices: &[f64],
+    sheet: &mut [u8],
+) -> u32
+    ensures { λ r. ⌜ (r ≡ lookOrdinal recogniser offset (thresholdsOf th0 z2 th2 z3 th3 zdf5 th6 zdf7 th8 zf8 th10 th13 th14) (now (prices .entry)) (length (now (sheet .entry))))
+        × (now (sheet .exit) ≡ sheetOf (freshBox (thresholdsOf th0 z2 th2 z3 th3 zdf5 th6 zdf7 th8 zf8 th10 th13 th14)) (now (prices .entry)) (now (sheet .entry))) ⌝ }
+{
+    let t = Thresholds::new(
+        th0,
+        z2,
+        th2,
+        z3,
+        th3,
+        zdf5,
+        th6,
+        zdf7,
+        th8,
+        zf8,
+        th10,
+        th13,
+        th14,
+    );
+    let judged = look_after(recogniser, offset, t, sizes, prices, sheet);
+    ordinal_in(judged)
 }

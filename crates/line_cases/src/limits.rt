@@ -3,6 +3,7 @@ use crate::print;
 use crate::run;
 use crate::run::first;
 use bar_box::BarBox;
+use bar_box::KeptBar;
 use label_lines::Session;
 use label_lines::session;
 use measures::Bar;
@@ -23,11 +24,14 @@ fn thresholds(th14_above: bool, th0_nan: bool) -> Thresholds {
 
 // A session whose box counts so many bars, all of zeros.
 fn filled(thresholds: Thresholds, count: u32) -> Session {
-    let zeros = Bar {
-        open: 0.0,
-        close: 0.0,
-        high: 0.0,
-        low: 0.0,
+    let zeros = KeptBar {
+        bar: Bar {
+            open: 0.0,
+            close: 0.0,
+            high: 0.0,
+            low: 0.0,
+        },
+        ordinal: 0,
     };
     let held = BarBox {
         thresholds,

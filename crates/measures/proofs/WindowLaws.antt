@@ -44,7 +44,7 @@ upTo-one (suc len) = upTo-in (suc len) 1 (omega arith) (omega arith) ∙ omega a
 -- ---- the window as a part
 
 -- what is left of the first p after the first k
-pub drop-take : (k p : ℕ) (bars : List Bar) → k ≤ p → p ≤ length bars → drop k (take p bars) ≡ take (p - k) (drop k bars)
+pub drop-take : {A : Type 0} (k p : ℕ) (bars : List A) → k ≤ p → p ≤ length bars → drop k (take p bars) ≡ take (p - k) (drop k bars)
 drop-take k p bars h g =
     let e : k + (p - k) ≡ p = omega arith in
     let s : take p bars ≡ take k bars ++ take (p - k) (drop k bars) = rw e at (take-add k (p - k) bars) in

@@ -12,8 +12,8 @@ use Rattle.prices.specs.Bar.{noBar}
 unfoldable pub upTo : ℕ → ℕ → ℕ
 upTo len di = cond (eqb di 0) 0 (cond (ltb len di) 0 (len - di + 1))
 
--- the newest n bars, or all if there are fewer
-unfoldable pub newest : ℕ → List Bar → List Bar
+-- the newest n bars, or all if there are fewer; also of bars that are kept with more than their prices
+unfoldable pub newest : {A : Type 0} → ℕ → List A → List A
 newest n bars = drop (length bars - n) bars
 
 -- the last min(n, p) bars up to the judged one, the judged bar included

@@ -13,6 +13,8 @@ use Rattle.recognisers.specs.declared.call.Verdict.{Verdict}
 use Rattle.recognisers.specs.declared.call.Verdict.the-variants.{Accepted, Denied}
 use Rattle.recognisers.specs.declared.call.Answer.{Answer}
 use Rattle.recognisers.specs.declared.call.Answer.the-variants.{Labels, Refused}
+use Rattle.recognisers.specs.declared.call.LookAnswer.{LookAnswer}
+use Rattle.recognisers.specs.declared.call.LookAnswer.the-variants as look
 use Rattle.rule_table.specs.Threshold.{validOf}
 use Rattle.rule_types.specs.Number.{recognisers, rowBytes, mostBars, farthestLook, longestLine}
 use Rattle.rule_table.specs.Table.{pairAt, codesOf}
@@ -113,3 +115,12 @@ refusalIn (Refused r) = refusalNumber r
 abbrev pub codesIn : Answer → List ℕ
 codesIn (Labels pair) = codesOf (pair ∷ [])
 codesIn (Refused r) = []
+
+-- a look's are those of the answer in it; besides there is the judged bar's ordinal, which a refusal does not have
+abbrev pub answerIn : LookAnswer → Answer
+answerIn (look.Judged pair ordinal) = Labels pair
+answerIn (look.Refused r) = Refused r
+
+abbrev pub ordinalIn : LookAnswer → ℕ
+ordinalIn (look.Judged pair ordinal) = ordinal
+ordinalIn (look.Refused r) = 0

@@ -1,6 +1,6 @@
 // The plain call, and why a call is refused.
 ghost use mathlib.Core.Path.{_≡_};
-ghost use Rattle.recognisers.specs.Refusal.{refusalNumber, plainVerdict, recogniseOf};
+ghost use Rattle.recognisers.specs.Refusal.{refusalNumber, plainVerdict, recogniseOf, answerIn, ordinalIn};
 use rule_table::table;
 use rule_table::thresholds::Thresholds;
 use rule_types::counts;
@@ -29,6 +29,32 @@ pub enum Verdict {
 pub enum Answer {
     Labels(Pair),
     Refused(Refusal),
+}
+
+// What a look answers: the pair with the judged bar's ordinal, which is 0 where there is no such bar, or the refusal alone.
+pub enum LookAnswer {
+    Judged { pair: Pair, ordinal: u32 },
+    Refused(Refusal),
+}
+
+// The pair or the refusal that a look answers.
+pub fn answer_in(a: LookAnswer) -> Answer
+    ensures { λ r. ⌜ r ≡ answerIn a ⌝ }
+{
+    match a {
+        LookAnswer::Judged { pair, ordinal: _ } => Answer::Labels(pair),
+        LookAnswer::Refused(why) => Answer::Refused(why),
+    }
+}
+
+// The ordinal that a look answers, 0 if it is refused.
+pub fn ordinal_in(a: LookAnswer) -> u32
+    ensures { λ r. ⌜ r ≡ ordinalIn a ⌝ }
+{
+    match a {
+        LookAnswer::Judged { pair: _, ordinal } => ordinal,
+        LookAnswer::Refused(_) => 0,
+    }
 }
 
 // The number of a refusal.

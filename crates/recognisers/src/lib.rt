@@ -5,6 +5,7 @@ pub mod call;
 pub mod export;
 
 pub use call::Answer;
+pub use call::LookAnswer;
 pub use call::Refusal;
 pub use call::recognise;
 pub use export::jcc_label;

@@ -16,7 +16,7 @@ use Rattle.recognisers.specs.Number.{rowBytes, mostBars, places}
 use Rattle.recognisers.specs.Refusal.{badThreshold, tooManyBars, firstTrue}
 use Rattle.recognisers.specs.Threshold.{validOf}
 use Rattle.bar_box.specs.declared.boxes.BarBox.{BarBox}
-use Rattle.bar_box.specs.Box.{kept, takenIn}
+use Rattle.bar_box.specs.Box.{numbered, held, takenIn}
 use Rattle.bar_box.specs.History.{pricesOf}
 use Rattle.bar_box.proofs.BoxLaws.{length-laid, taken-append}
 use Rattle.bar_box.proofs.FeedSteps.{fits}
@@ -84,7 +84,7 @@ all-fed b all tally shaped bar (next ∷ bars) f =
     let one : Fit b tally 1 = record { valid = f .valid; few = omega arith; adds = f .adds } in
     let rest : Fit (takenIn b first) (counted (rowsFrom b first) tally) (suc (length bars)) =
     record { valid = f .valid; few = omega arith; adds = parts-add b all tally shaped first (f .adds) } in
-    let later = all-fed (takenIn b first) (length-laid (b .bars) (kept b ++ first) all) (counted (rowsFrom b first) tally) (counted-shaped tally shaped (rowsFrom b first)) next bars rest in
+    let later = all-fed (takenIn b first) (length-laid (b .bars) (held b ++ numbered (b .count) first) all) (counted (rowsFrom b first) tally) (counted-shaped tally shaped (rowsFrom b first)) next bars rest in
     rw (one-taken b tally bar (fit-accepted b tally 1 one), later, taken-append b all first (next ∷ bars), parts-counted b all tally shaped first (next ∷ bars))
 
 -- ---- refused ones: the first of them is, and no more is fed

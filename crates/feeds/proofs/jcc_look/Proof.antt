@@ -1,88 +1,15 @@
--- A refusal is the answer; otherwise the feeds leave the box of one feed, and the look is at that box. Assumes nothing.
-use mathlib.Core.Path.{_∙_, ap, sym}
+-- The number of the answer in what the look hands back. Assumes nothing.
+use mathlib.Core.Path.{_∙_}
 use borrow.Author.Needs.{needs}
-use lib.ListN.{length}
-use Rattle.recognisers.specs.Threshold.{Thresholds}
-use Rattle.bar_box.specs.declared.boxes.Outcome.{Outcome}
-use Rattle.bar_box.specs.Box.{madeOf, feedVerdict, fedOf, sheetOf}
-use Rattle.feeds.specs.Result.{lookResult}
-use Rattle.feeds.proofs.PartLaws.{made-fresh}
+use Rattle.feeds.proofs.PartLaws.{look-number}
 use Rattle.feeds.proofs.jcc_look.Statement.{statement}
 use Rattle.feeds.proofs.jcc_look.Tie as tie
 
-new-requires : tie.Need-new-requires
-new-requires c κs = search needs
-
-feed-verdict-requires : tie.Need-feed-verdict-requires
-feed-verdict-requires c κs = search needs
-
-enum-known-why : tie.Need-enum-known-why
-enum-known-why c = search needs
-
-answer-number-requires : tie.Need-answer-number-requires
-answer-number-requires c κs = search needs
-
-enum-told : tie.Need-enum-told
-enum-told c = search needs
-
-make-requires : tie.Need-make-requires
-make-requires c κs = search needs
-
-feed-parts-requires : tie.Need-feed-parts-requires
-feed-parts-requires c κs =
-    let made = c .before .before in
-    let told = made .before in
-    let call = told .before .before in
-    let accepted = sym (call .feed-verdict .ensures) ∙ told .enum-told .given .1 in
-    let is-box = ap (λ (o : Outcome). o .after) (made .make .ensures) ∙ made-fresh _ _ _ _ accepted in
-    rw is-box accepted
-
-look-requires : tie.Need-look-requires
-look-requires c κs = search needs
-
-answer-number-requires-2 : tie.Need-answer-number-requires-2
-answer-number-requires-2 c κs = search needs
-
 returns : tie.Need-returns
-unfolding lookResult fedOf sheetOf
 returns c =
-    let call = c .before .before .before .before in
-    let set = call .before in
-    let args = set .before .before .before .before .args in
-    let given = ap (λ (t : Thresholds). feedVerdict t 0 (length (args .prices .now)) (length (args .sheet .now))) (sym (set .new .ensures)) in
-    let denied = given ∙ sym (call .feed-verdict .ensures) ∙ c .before .before .why .given .1 in
-    (c .answer-number .ensures ∙ simp denied, simp denied)
-
-same-length : tie.Need-same-length
-same-length c = search needs
-
-returns-2 : tie.Need-returns-2
-unfolding lookResult fedOf sheetOf
-returns-2 c =
-    let fed = c .before .before .before .before in
-    let made = fed .before .before .before in
-    let told = made .before in
-    let call = told .before .before in
-    let set = call .before in
-    let args = set .before .before .before .before .args in
-    let given = ap (λ (t : Thresholds). feedVerdict t 0 (length (args .prices .now)) (length (args .sheet .now))) (sym (set .new .ensures)) in
-    let accepted = given ∙ sym (call .feed-verdict .ensures) ∙ told .enum-told .given .1 in
-    let is-box = ap (λ (o : Outcome). o .after) (made .make .ensures) ∙ ap (λ (t : Thresholds). madeOf t .after) (set .new .ensures) ∙ made-fresh _ _ _ _ accepted in
-    (c .answer-number2 .ensures ∙ rw (c .before .look .ensures, fed .feed-parts .ensures .0, is-box) (simp accepted), fed .feed-parts .ensures .1 ∙ rw is-box (simp accepted))
+    let looked = c .before .before .before .before in
+    let set = looked .before .before in
+    (c .answer-number .ensures ∙ rw (c .before .answer-in .ensures, looked .look-after .ensures .0, set .new .ensures) (look-number _ _ _ _ _), looked .look-after .ensures .1 ∙ rw (set .new .ensures))
 
 pub jcc-look-spec : {M : Type 1} → statement M
-jcc-look-spec =
-    tie.close
-    (tie.spec
-    new-requires
-    feed-verdict-requires
-    enum-known-why
-    answer-number-requires
-    enum-told
-    make-requires
-    feed-parts-requires
-    look-requires
-    answer-number-requires-2
-    returns
-    same-length
-    returns-2)
+jcc-look-spec = tie.close (tie.spec (λ c κs. tt) (λ c κs. tt) (λ c κs. tt) (λ c κs. tt) (λ c. search needs) returns)

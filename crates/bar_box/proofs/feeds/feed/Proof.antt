@@ -1,65 +1,48 @@
--- A refusal leaves box and sheet; otherwise the rows are written and the bars taken in. Assumes nothing.
+-- All lent prices are taken in, or none, as the verdict says. Assumes nothing.
+use Prim.Native.Nat.{_≤_}
 use mathlib.Core.Path.{_≡_, _∙_, sym}
 use native.Mathlib.Omega.{arith}
 use borrow.Author.Needs.{needs}
-use lib.ListN.{length}
-use Rattle.measures.proofs.RunLaws.{length-bars}
-use Rattle.bar_box.specs.Box.{fedOf, sheetOf}
-use Rattle.bar_box.proofs.FeedSteps.{fits}
+use lib.ListN.{length, length-take, length-map}
+use Rattle.measures.specs.Bar.{barsOf}
+use Rattle.bar_box.specs.Sheet.{rowsOf, overlay}
+use Rattle.bar_box.specs.Box.{kept, takenIn, leaves, fedOf, sheetOf}
+use Rattle.bar_box.proofs.FeedSteps.{lent-few, lent-fits, lent-box, lent-sheet}
 use Rattle.bar_box.proofs.feeds.feed.Statement.{statement}
 use Rattle.bar_box.proofs.feeds.feed.Tie as tie
 
-label-requires : tie.Need-label-requires
-label-requires c κs =
-    let told = c .before .before in
-    let call = told .before .before in
-    let args = call .before .before .before .before .args in
-    let f = fits _ _ _ _ (sym (call .feed-verdict .ensures) ∙ told .enum-told .given .1) in
-    omega (arith, length-bars (args .prices .now), f .few, f .room)
+slice-aggregate-take-in : tie.Need-slice-aggregate-take-in
+slice-aggregate-take-in c =
+    let end = c .before in
+    let told = end .before in
+    let few = lent-few (told .feed-verdict .result) (length (told .before .before .before .args .prices .now)) in
+    simp length-take (omega (arith, few, end .taken .ensures))
 
-cast-t19 : tie.Need-cast-t19
-cast-t19 c =
-    let told = c .before .before .before .before .before .before .before in
-    let call = told .before .before in
-    let args = call .before .before .before .before .args in
-    let f = fits _ _ _ _ (sym (call .feed-verdict .ensures) ∙ told .enum-told .given .1) in
-    omega (arith, c .count .ensures, length-bars (args .prices .now), f .few)
-
-add-t20 : tie.Need-add-t20
-add-t20 c =
-    let told = c .before .before .before .before .before .before .before in
-    let call = told .before .before in
-    let args = call .before .before .before .before .args in
-    let f = fits _ _ _ _ (sym (call .feed-verdict .ensures) ∙ told .enum-told .given .1) in
-    omega (arith, c .count .ensures, length-bars (args .prices .now), f .few)
+take-in-requires : tie.Need-take-in-requires
+take-in-requires c κs =
+    let end = c .before .before in
+    let told = end .before in
+    let start = told .before .before .before in
+    let args = start .args in
+    let bound : args .b .count ≤ 4294967295 = omega arith in
+    rw (end .taken .ensures) (lent-fits (args .b .thresholds) (args .b .count) (args .prices .now) (length (args .sheet .now)) (told .feed-verdict .result) (sym (told .feed-verdict .ensures)) bound)
 
 returns : tie.Need-returns
 unfolding fedOf sheetOf
 returns c =
-    let call = c .before .before .before in
-    let denied = sym (call .feed-verdict .ensures) ∙ c .before .why .given .1 in
-    (simp denied, simp denied)
-
-returns-2 : tie.Need-returns-2
-unfolding fedOf sheetOf
-returns-2 c =
-    let told = c .before .before .before .before .before .before .before in
-    let call = told .before .before in
-    let accepted = sym (call .feed-verdict .ensures) ∙ told .enum-told .given .1 in
-    (simp (accepted, c .count .ensures, c .before .lay .ensures), simp (accepted, c .before .before .before .before .label .ensures))
+    let took = c .before .before in
+    let end = took .before .before .before in
+    let told = end .before in
+    let start = told .before .before .before in
+    let b = start .args .b in
+    let ps = start .args .prices .now in
+    let sheet = start .args .sheet .now in
+    let v = told .feed-verdict .result in
+    let full : length (b .bars) ≡ 64 = simp length-map at (start .good .0 .1 .1 .1 .1 .0 .1 .0 .1) in
+    let box : took .take-in .result ≡ leaves v b (takenIn b (barsOf ps)) = took .take-in .ensures .0 ∙ rw (end .taken .ensures) (lent-box v b full ps) in
+    let rows : took .take-in .last .1 .1 .0 ≡ leaves v sheet (overlay sheet 0 (rowsOf (b .thresholds) (b .count) (kept b) (barsOf ps))) =
+    took .take-in .ensures .1 ∙ rw (end .taken .ensures) (lent-sheet v (b .thresholds) (b .count) (kept b) ps sheet) in
+    (rw (box, told .feed-verdict .ensures), rw (rows, told .feed-verdict .ensures))
 
 pub feed-spec : {M : Type 1} → statement M
-feed-spec =
-    tie.close
-    (tie.spec
-    (λ c κs. tt)
-    (λ c. search needs)
-    (λ c. search needs)
-    label-requires
-    (λ c κs. tt)
-    (λ c κs. tt)
-    cast-t19
-    add-t20
-    returns
-    (λ c. search needs)
-    returns-2)
+feed-spec = tie.close (tie.spec (λ c κs. tt) (λ c κs. tt) slice-aggregate-take-in take-in-requires (λ c. search needs) returns)

@@ -1,55 +1,70 @@
 -- The rows over the run, then those over the lent prices. Assumes nothing.
-use Prim.Native.Nat.{_+_, _*_, min}
+use Prim.Native.Nat.{_+_, _*_, _≤_}
 use mathlib.Core.Path.{_≡_, _∙_}
+use mathlib.Core.List.{_++_}
 use native.Mathlib.Omega.{arith}
-use lib.ListN.{length, take, length-take}
+use lib.ListN.{length, take, length-take, length-append}
+use lib.Seq.{length-take-le}
 use Rattle.measures.specs.Bar.{barsOf}
-use Rattle.bar_box.specs.Sheet.{before}
-use Rattle.bar_box.proofs.SeamLaws.{length-run, feed-sheet}
+use Rattle.measures.proofs.RunLaws.{length-bars}
+use Rattle.bar_box.proofs.SeamLaws.{seam-bars, feed-sheet}
 use borrow.Author.Needs.{needs}
 use Rattle.bar_box.proofs.feeds.label.Statement.{statement}
 use Rattle.bar_box.proofs.feeds.label.Tie as tie
 
-slice-aggregate-join : tie.Need-slice-aggregate-join
-slice-aggregate-join c = search needs
-
-join-requires : tie.Need-join-requires
-join-requires c κs = search needs
+count-requires : tie.Need-count-requires
+count-requires c κs = search needs
 
 least-requires : tie.Need-least-requires
 least-requires c κs = search needs
 
-least-requires-2 : tie.Need-least-requires-2
-least-requires-2 c κs = search needs
+mul-put-prices : tie.Need-mul-put-prices
+mul-put-prices c = search needs
 
-count-requires : tie.Need-count-requires
-count-requires c κs = search needs
+mul-put-prices-2 : tie.Need-mul-put-prices-2
+mul-put-prices-2 c = search needs
 
-least-requires-3 : tie.Need-least-requires-3
-least-requires-3 c κs = search needs
+put-prices-requires : tie.Need-put-prices-requires
+put-prices-requires c κs =
+    let few = c .before in
+    let counted = few .before in
+    let start = counted .before .before .before .before in
+    omega (arith, length-bars (start .args .prices .now), counted .count .ensures, few .least .ensures, start .pre .0, start .pre .1)
 
-array-share-prefix-run : tie.Need-array-share-prefix-run
-array-share-prefix-run c = search needs
+mul-end : tie.Need-mul-end
+mul-end c = search needs
+
+mul-end-2 : tie.Need-mul-end-2
+mul-end-2 c = search needs
+
+add-end : tie.Need-add-end
+add-end c = search needs
+
+slice-reshare-prefix-label-run : tie.Need-slice-reshare-prefix-label-run
+slice-reshare-prefix-label-run c = search needs
 
 slice-aggregate-label-run : tie.Need-slice-aggregate-label-run
 slice-aggregate-label-run c = simp length-take (omega arith)
 
 label-run-requires : tie.Need-label-run-requires
 label-run-requires c κs =
-    let new = c .before .before in
-    let counted = new .before in
-    let old = counted .before in
-    let held = old .before in
-    let joined = held .before .before in
-    let start = joined .before .before .before .before in
+    let put = c .before .before .before .before in
+    let few = put .before .before in
+    let counted = few .before in
+    let start = counted .before .before .before .before in
     let args = start .args in
-    let lent = barsOf (args .prices .now) in
-    let kept = take (args .count) (args .bars) in
-    let all : length (args .bars) ≡ 64 = start .good .1 .1 .0 .1 .0 .1 in
-    let size : length kept ≡ min (args .count) 64 = rw (length-take, all) in
-    let n-is : old .least2 .result ≡ min (length kept) before = old .least2 .ensures ∙ rw (held .least .ensures, size) in
-    let m-is : new .least3 .result ≡ min (length lent) before = new .least3 .ensures ∙ rw (counted .count .ensures) in
-    rw (joined .join .ensures .1) (omega (arith, length-run kept lent (old .least2 .result) (new .least3 .result) n-is m-is))
+    let bars = barsOf (args .prices .now) in
+    let old = args .old in
+    let new = few .least .result in
+    let total = length-bars (args .prices .now) in
+    let held = length-bars (args .run .now) in
+    let some : new ≤ length bars = omega (arith, counted .count .ensures, few .least .ensures) in
+    let near : new ≤ 21 = omega (arith, few .least .ensures) in
+    let h = take old (barsOf (args .run .now)) in
+    let size : length h ≡ old = length-take-le old (barsOf (args .run .now)) (omega (arith, start .pre .0, start .pre .1)) in
+    let seam : barsOf (take (4 * old + 4 * new) (put .put-prices .last .1 .1 .0)) ≡ h ++ take new bars = rw (put .put-prices .ensures) (seam-bars (args .run .now) (args .prices .now) old new (omega arith) (omega (arith, start .pre .0, start .pre .1))) in
+    let both : length (h ++ take new bars) ≡ old + new = rw (length-append, size, length-take-le new bars some) in
+    rw seam (omega (arith, both, start .pre .2, start .pre .3))
 
 add-label-run : tie.Need-add-label-run
 add-label-run c = search needs
@@ -63,40 +78,48 @@ label-run-requires-2 c κs = search needs
 same-length : tie.Need-same-length
 same-length c = search needs
 
+same-length-2 : tie.Need-same-length-2
+same-length-2 c = search needs
+
 returns : tie.Need-returns
 returns c =
     let again = c .before .before in
     let run = again .before .before .before .before in
-    let new = run .before .before .before in
-    let counted = new .before in
-    let old = counted .before in
-    let held = old .before in
-    let joined = held .before .before in
-    let start = joined .before .before .before .before in
+    let put = run .before .before .before .before .before in
+    let few = put .before .before in
+    let counted = few .before in
+    let start = counted .before .before .before .before in
     let args = start .args in
-    let lent = barsOf (args .prices .now) in
-    let kept = take (args .count) (args .bars) in
-    let all : length (args .bars) ≡ 64 = start .good .1 .1 .0 .1 .0 .1 in
-    let size : length kept ≡ min (args .count) 64 = rw (length-take, all) in
-    let n-is : old .least2 .result ≡ min (length kept) before = old .least2 .ensures ∙ rw (held .least .ensures, size) in
-    let m-is : new .least3 .result ≡ min (length lent) before = new .least3 .ensures ∙ rw (counted .count .ensures) in
-    again .label-run2 .ensures ∙ rw (run .label-run .ensures, joined .join .ensures .1) (feed-sheet kept lent (old .least2 .result) (new .least3 .result) n-is m-is (args .t) (args .count) (args .sheet .now) (omega arith))
+    let bars = barsOf (args .prices .now) in
+    let old = args .old in
+    let new = few .least .result in
+    let total = length-bars (args .prices .now) in
+    let held = length-bars (args .run .now) in
+    let some : new ≤ length bars = omega (arith, counted .count .ensures, few .least .ensures) in
+    let near : new ≤ 21 = omega (arith, few .least .ensures) in
+    let h = take old (barsOf (args .run .now)) in
+    let size : length h ≡ old = length-take-le old (barsOf (args .run .now)) (omega (arith, start .pre .0, start .pre .1)) in
+    let seam : barsOf (take (4 * old + 4 * new) (put .put-prices .last .1 .1 .0)) ≡ h ++ take new bars = rw (put .put-prices .ensures) (seam-bars (args .run .now) (args .prices .now) old new (omega arith) (omega (arith, start .pre .0, start .pre .1))) in
+    again .label-run2 .ensures ∙ rw (run .label-run .ensures, seam) (feed-sheet (args .t) (args .count) h bars old new (args .sheet .now) size (few .least .ensures ∙ rw (counted .count .ensures)) (start .pre .3))
 
 pub label-spec : {M : Type 1} → statement M
 label-spec =
     tie.close
     (tie.spec
-    slice-aggregate-join
-    join-requires
-    least-requires
-    least-requires-2
     count-requires
-    least-requires-3
-    array-share-prefix-run
+    least-requires
+    mul-put-prices
+    mul-put-prices-2
+    put-prices-requires
+    mul-end
+    mul-end-2
+    add-end
+    slice-reshare-prefix-label-run
     slice-aggregate-label-run
     label-run-requires
     add-label-run
     mul-label-run
     label-run-requires-2
     same-length
+    same-length-2
     returns)

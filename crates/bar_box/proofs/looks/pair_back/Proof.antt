@@ -3,8 +3,11 @@ use Prim.Native.Nat.{_*_}
 use mathlib.Core.Path.{_≡_, _∙_}
 use native.Mathlib.Omega.{arith}
 use borrow.Author.Needs.{needs}
-use lib.ListN.{length, take, length-take}
+use lib.ListN.{length, take, length-take, length-map}
 use lib.Seq.{length-take-le}
+use Rattle.bar_box.specs.declared.boxes.KeptBar.{KeptBar}
+use Rattle.bar_box.specs.Box.{barsIn}
+use Rattle.bar_box.proofs.OrdinalLaws.{map-take}
 use Rattle.bar_box.proofs.SeamLaws.{front-bars}
 use Rattle.bar_box.proofs.BoxLaws.{take-same}
 use Rattle.bar_box.proofs.looks.pair_back.Statement.{statement}
@@ -39,9 +42,10 @@ returns c =
     let bars = start .args .bars in
     let n = kept .least .result in
     let all : length bars ≡ 64 = start .good .1 .1 .0 .1 .0 .1 in
-    let few : length (take n bars) ≡ n = length-take-le n bars (omega (arith, kept .least .ensures)) in
-    let same : take n bars ≡ take (start .args .count) bars = take-same bars n (start .args .count) (omega (arith, kept .least .ensures)) in
-    c .pair-at .ensures ∙ rw (front-bars _ _ (take n bars) (4 * n) (call .put-bars .ensures) (rw few), same)
+    let size : length (barsIn bars) ≡ 64 = length-map bars _ ∙ all in
+    let few : length (take n (barsIn bars)) ≡ n = length-take-le n (barsIn bars) (omega (arith, kept .least .ensures)) in
+    let same : take n (barsIn bars) ≡ take (start .args .count) (barsIn bars) = take-same (barsIn bars) n (start .args .count) (omega (arith, kept .least .ensures)) in
+    c .pair-at .ensures ∙ rw (front-bars _ _ (take n (barsIn bars)) (4 * n) (call .put-bars .ensures) (rw few), same, ← map-take (λ (r : KeptBar). r .bar) (start .args .count) bars)
 
 pub pair-back-spec : {M : Type 1} → statement M
 pair-back-spec =

@@ -16,14 +16,8 @@ loop-holds c = search needs
 look-requires : tie.Need-look-requires Inv-loop μ-loop
 look-requires c κs = search needs
 
-answer-number-requires : tie.Need-answer-number-requires Inv-loop μ-loop
-answer-number-requires c κs = search needs
-
-cast-mix : tie.Need-cast-mix Inv-loop μ-loop
-cast-mix c = search needs
-
-mix-requires : tie.Need-mix-requires Inv-loop μ-loop
-mix-requires c κs = search needs
+mix-answer-requires : tie.Need-mix-answer-requires Inv-loop μ-loop
+mix-answer-requires c κs = search needs
 
 add-i : tie.Need-add-i Inv-loop μ-loop
 add-i c = search needs
@@ -45,9 +39,7 @@ of-looks-spec =
     μ-loop
     loop-holds
     look-requires
-    answer-number-requires
-    cast-mix
-    mix-requires
+    mix-answer-requires
     add-i
     loop-less
     loop-again

@@ -16,14 +16,14 @@ least-requires c κs = search needs
 loop-holds : tie.Need-loop-holds Inv-loop μ-loop
 loop-holds c = search needs
 
-mul-mix-bar : tie.Need-mul-mix-bar Inv-loop μ-loop
-mul-mix-bar c = search needs
+mul-mix-kept : tie.Need-mul-mix-kept Inv-loop μ-loop
+mul-mix-kept c = search needs
 
-array-copy-out-mix-bar : tie.Need-array-copy-out-mix-bar Inv-loop μ-loop
-array-copy-out-mix-bar c = search needs
+array-copy-out-mix-kept : tie.Need-array-copy-out-mix-kept Inv-loop μ-loop
+array-copy-out-mix-kept c = search needs
 
-mix-bar-requires : tie.Need-mix-bar-requires Inv-loop μ-loop
-mix-bar-requires c κs = search needs
+mix-kept-requires : tie.Need-mix-kept-requires Inv-loop μ-loop
+mix-kept-requires c κs = search needs
 
 add-i : tie.Need-add-i Inv-loop μ-loop
 add-i c = search needs
@@ -45,9 +45,9 @@ of-places-spec =
     μ-loop
     least-requires
     loop-holds
-    mul-mix-bar
-    array-copy-out-mix-bar
-    mix-bar-requires
+    mul-mix-kept
+    array-copy-out-mix-kept
+    mix-kept-requires
     add-i
     loop-less
     loop-again

@@ -19,6 +19,9 @@ slice-aggregate-number c = search needs
 look-requires : tie.Need-look-requires Inv-loop μ-loop
 look-requires c κs = search needs
 
+answer-in-requires : tie.Need-answer-in-requires Inv-loop μ-loop
+answer-in-requires c κs = search needs
+
 answer-number-requires : tie.Need-answer-number-requires Inv-loop μ-loop
 answer-number-requires c κs = search needs
 
@@ -37,6 +40,12 @@ loop-less c = search needs
 loop-again : tie.Need-loop-again Inv-loop μ-loop
 loop-again c = search needs
 
+look-requires-2 : tie.Need-look-requires-2 Inv-loop μ-loop
+look-requires-2 c κs = search needs
+
+write-ordinal-requires : tie.Need-write-ordinal-requires Inv-loop μ-loop
+write-ordinal-requires c κs = search needs
+
 returns : tie.Need-returns Inv-loop μ-loop
 returns c = search needs
 
@@ -49,10 +58,13 @@ write-looks-spec =
     loop-holds
     slice-aggregate-number
     look-requires
+    answer-in-requires
     answer-number-requires
     cast-number
     number-requires
     add-k
     loop-less
     loop-again
+    look-requires-2
+    write-ordinal-requires
     returns)

@@ -16,11 +16,11 @@ loop-holds c = search needs
 look-requires : tie.Need-look-requires Inv-loop μ-loop
 look-requires c κs = search needs
 
-cast-mix : tie.Need-cast-mix Inv-loop μ-loop
-cast-mix c = search needs
+ordinal-back-requires : tie.Need-ordinal-back-requires Inv-loop μ-loop
+ordinal-back-requires c κs = search needs
 
-mix-requires : tie.Need-mix-requires Inv-loop μ-loop
-mix-requires c κs = search needs
+mix-look-requires : tie.Need-mix-look-requires Inv-loop μ-loop
+mix-look-requires c κs = search needs
 
 add-i : tie.Need-add-i Inv-loop μ-loop
 add-i c = search needs
@@ -42,8 +42,8 @@ of-looks-spec =
     μ-loop
     loop-holds
     look-requires
-    cast-mix
-    mix-requires
+    ordinal-back-requires
+    mix-look-requires
     add-i
     loop-less
     loop-again

@@ -16,8 +16,11 @@ loop-holds c = search needs
 bar-in-requires : tie.Need-bar-in-requires Inv-loop μ-loop
 bar-in-requires c κs = search needs
 
-mix-bar-requires : tie.Need-mix-bar-requires Inv-loop μ-loop
-mix-bar-requires c κs = search needs
+ordinal-in-requires : tie.Need-ordinal-in-requires Inv-loop μ-loop
+ordinal-in-requires c κs = search needs
+
+mix-place-requires : tie.Need-mix-place-requires Inv-loop μ-loop
+mix-place-requires c κs = search needs
 
 add-i : tie.Need-add-i Inv-loop μ-loop
 add-i c = search needs
@@ -39,7 +42,8 @@ of-places-spec =
     μ-loop
     loop-holds
     bar-in-requires
-    mix-bar-requires
+    ordinal-in-requires
+    mix-place-requires
     add-i
     loop-less
     loop-again
