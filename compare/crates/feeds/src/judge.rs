@@ -13,7 +13,7 @@ use inputs::rng::Rng;
 use inputs::{cuts, hostile, looks, tallies};
 use jcc_types::{Bar, Label, MOST_OFFSET, Pair, RECOGNISERS, REFUSED, ROW_BYTES, Thresholds};
 use oracle::{Oracle, Verdict};
-use port::PlainBox;
+use port::{Looked, PlainBox};
 
 /// A difference, with all that is needed to see it again.
 pub struct Difference(pub String);
@@ -285,9 +285,9 @@ fn crows(rows: &[u8], trial: &Trial) -> Vec<Look> {
 }
 
 /// The export's form of a look's outcome.
-fn number(outcome: Result<Pair, u32>) -> u32 {
+fn number(outcome: Result<Looked, u32>) -> u32 {
     match outcome {
-        Ok(pair) => pair.number(),
+        Ok(looked) => looked.pair.number(),
         Err(refusal) => REFUSED + refusal,
     }
 }

@@ -230,7 +230,7 @@ impl Call<'_> {
             (Err(refusal), Export::Look(_)) => REFUSED + refusal,
             (Err(refusal), _) => *refusal,
             (Ok(plain), Export::Look(look)) => match plain.look(look.recogniser, look.offset) {
-                Ok(pair) => pair.number(),
+                Ok(looked) => looked.pair.number(),
                 Err(refusal) => REFUSED + refusal,
             },
             (Ok(_), _) => 0,

@@ -14,7 +14,7 @@ mod refusals;
 mod rules;
 mod tally;
 
-pub use plain_box::{PlainBox, feed_in_parts, tally_in_parts};
+pub use plain_box::{Looked, PlainBox, feed_in_parts, tally_in_parts};
 pub use refusals::{feed_refusal, look_refusal, refusal};
 pub use tally::Tally;
 

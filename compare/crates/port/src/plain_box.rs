@@ -11,6 +11,16 @@ pub struct PlainBox {
     fed: usize,
     /// The newest bars, oldest first from the first place; zeros where there are fewer.
     bars: [Bar; KEPT],
+    /// The ordinal of each, written with it: 1 for the first bar that was ever fed. They are apart from
+    /// the bars because a rule is handed a slice of these.
+    ordinals: [u32; KEPT],
+}
+
+/// What a look hands back: the pair, and the judged bar's ordinal, or 0 if there is no such bar.
+#[derive(Clone, Copy, Debug)]
+pub struct Looked {
+    pub pair: Pair,
+    pub ordinal: u32,
 }
 
 impl PlainBox {
@@ -23,6 +33,7 @@ impl PlainBox {
             thresholds: *t,
             fed: 0,
             bars: [Bar::from_prices([0.0; BAR_PRICES]); KEPT],
+            ordinals: [0; KEPT],
         })
     }
 
@@ -40,11 +51,14 @@ impl PlainBox {
         Ok(())
     }
 
-    /// The pair at an offset, or the refusal.
-    pub fn look(&self, recogniser: u32, offset: u32) -> Result<Pair, u32> {
+    /// The pair and the ordinal at an offset, or the refusal.
+    pub fn look(&self, recogniser: u32, offset: u32) -> Result<Looked, u32> {
         match look_refusal(recogniser, offset) {
             Some(refusal) => Err(refusal),
-            None => Ok(self.pair(recogniser as usize, offset)),
+            None => Ok(Looked {
+                pair: self.pair(recogniser as usize, offset),
+                ordinal: self.ordinal(offset),
+            }),
         }
     }
 
@@ -54,10 +68,12 @@ impl PlainBox {
             self.fed
         } else {
             self.bars.copy_within(1.., 0);
+            self.ordinals.copy_within(1.., 0);
             KEPT - 1
         };
-        self.bars[place] = bar;
         self.fed += 1;
+        self.bars[place] = bar;
+        self.ordinals[place] = self.fed as u32;
     }
 
     fn write(&self, row: &mut [u8; ROW_BYTES]) {
@@ -70,8 +86,18 @@ impl PlainBox {
     /// at least 22, and no rule asks for more; 12's gate asks whether len is above 23, and they are
     /// above 23 exactly if N is.
     fn pair(&self, recogniser: usize, offset: u32) -> Pair {
-        let kept = &self.bars[..self.fed.min(KEPT)];
+        let kept = &self.bars[..self.kept()];
         label(recogniser, offset, &self.thresholds, kept)
+    }
+
+    /// What stands beside the judged bar; the offset is at least 1.
+    fn ordinal(&self, offset: u32) -> u32 {
+        let place = self.kept().checked_sub(offset as usize);
+        place.map_or(0, |place| self.ordinals[place])
+    }
+
+    fn kept(&self) -> usize {
+        self.fed.min(KEPT)
     }
 }
 
