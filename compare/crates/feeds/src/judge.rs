@@ -1,9 +1,11 @@
 //! What a box must say, and whether the exports and the plain box say it.
 //!
 //! The rows are the repository's answers at offset 1 over the history up to each bar, a look is its
-//! answer over the whole history; where it has no say, the plain port answers instead.
+//! answer over the whole history; where it has no say, the plain port answers instead. Of ordinals it
+//! knows nothing: they are told from the number of bars.
 
 use crate::counts::Counts;
+use crate::ordinal::{self, Ordinal};
 use crate::sheet::{Sheet, pair_at};
 use crate::tally::Tally;
 use crate::text;
@@ -41,19 +43,24 @@ impl Judge {
         }
     }
 
-    /// A history in many cuts, and some looks at it. After an error the trial is the one that was
-    /// wrong.
+    /// A history in many cuts, with an ordinal for each, and some looks at it. After an error the trial
+    /// is the one that was wrong.
     pub fn try_history(&mut self, trial: &mut Trial, rng: &mut Rng) -> Result<(), String> {
         let count = trial.bars.len();
         let rows = self.rows(trial)?;
-        for sizes in cuts::all(rng, count) {
-            trial.sizes = sizes;
+        let cuts = cuts::all(rng, count);
+        for sizes in &cuts {
+            trial.sizes.clone_from(sizes);
             trial.spare = rng.pick(&SPARE);
             trial.counts = rng.pick(&tallies::LENGTHS);
             self.try_feeds(&rows, trial)?;
         }
         self.try_patterns(&rows, trial, rng)?;
         let plain = check_plain_box(&rows, trial)?;
+        for sizes in cuts {
+            trial.sizes = sizes;
+            self.try_ordinal(&rows, &plain, trial, looks::random(rng, count))?;
+        }
         for _ in 0..look_count(count) {
             trial.sizes = cuts::random(rng, count);
             let look = looks::random(rng, count);
@@ -72,6 +79,7 @@ impl Judge {
         for look in looks::all() {
             trial.sizes = cuts::random(rng, trial.bars.len());
             self.try_look(&rows, &plain, trial, look)?;
+            self.try_ordinal(&rows, &plain, trial, look)?;
         }
         Ok(())
     }
@@ -86,6 +94,7 @@ impl Judge {
         self.try_feeds(rows, trial)?;
         for look in looks {
             self.try_look(rows, &plain, trial, *look)?;
+            self.try_ordinal(rows, &plain, trial, *look)?;
         }
         Ok(())
     }
@@ -129,6 +138,19 @@ impl Judge {
         Ok(())
     }
 
+    fn try_ordinal(
+        &mut self,
+        rows: &[u8],
+        plain: &PlainBox,
+        trial: &mut Trial,
+        look: Look,
+    ) -> Result<(), String> {
+        trial.look = Some(look);
+        let ordinal = check_ordinal(rows, plain, trial, look)?;
+        self.tally.see_ordinal(ordinal);
+        Ok(())
+    }
+
     /// The first of the simplest trials that are wrong, as far as it gets simpler.
     pub fn simplest(&mut self, trial: Trial, wrong: String) -> Difference {
         let mut found = (trial, wrong);
@@ -149,10 +171,11 @@ impl Judge {
         let rows = self.rows(trial)?;
         let plain = check_plain_box(&rows, trial)?;
         check_feeds(&rows, trial)?;
-        match trial.look {
-            Some(look) => self.check_look(&rows, &plain, trial, look),
-            None => Ok(()),
+        if let Some(look) = trial.look {
+            self.check_look(&rows, &plain, trial, look)?;
+            check_ordinal(&rows, &plain, trial, look)?;
         }
+        Ok(())
     }
 
     /// The rows that a sheet must have. The repository then holds the whole history, for looks.
@@ -249,8 +272,8 @@ impl Judge {
     fn looked(&mut self, rows: &[u8], trial: &Trial, look: Look) -> Result<u32, String> {
         let k = look.recogniser as usize;
         let expected = self.pair(k, look.offset, &trial.thresholds, &trial.bars)?;
-        if let Some(row) = trial.bars.len().checked_sub(look.offset as usize) {
-            let printed = pair_at(rows, row, k);
+        if let Ordinal::Of(ordinal) = Ordinal::told(trial.bars.len(), look) {
+            let printed = pair_at(rows, ordinal as usize - 1, k);
             if k != THREE_CROW && printed != expected {
                 let wrong = text::pair(look.recogniser, printed, expected);
                 return Err(format!("the repository over the whole history, {wrong}"));
@@ -290,6 +313,36 @@ fn number(outcome: Result<Looked, u32>) -> u32 {
         Ok(looked) => looked.pair.number(),
         Err(refusal) => REFUSED + refusal,
     }
+}
+
+/// The ordinal, if all say the same and the sheet is that of the feeds.
+fn check_ordinal(
+    rows: &[u8],
+    plain: &PlainBox,
+    trial: &Trial,
+    look: Look,
+) -> Result<Ordinal, String> {
+    let Look { recogniser, offset } = look;
+    let expected = Ordinal::told(trial.bars.len(), look);
+    let mut sheet = Sheet::new(trial.sheet_len());
+    let ours = feeds_export::look_ordinal(
+        recogniser,
+        offset,
+        &trial.thresholds,
+        &trial.sizes,
+        &trial.prices(),
+        sheet.bytes(),
+    );
+    let plain = ordinal::of_plain_box(plain, look);
+    for (who, got) in [("jcc_look_ordinal", ours), ("look at the plain box", plain)] {
+        if got != expected.number() {
+            return Err(format!("{who}, {}", text::ordinal(look, expected, got)));
+        }
+    }
+    sheet
+        .check(rows)
+        .map_err(|wrong| format!("jcc_look_ordinal, {wrong}"))?;
+    Ok(expected)
 }
 
 /// The feeds without and with a tally.

@@ -1,11 +1,12 @@
 //! Compares the exports `jcc_feed`, `jcc_tally` and `jcc_look` with the repository's own functions, and
-//! all with the plain box, which judges alone where the repository has no say. Stops at the first
-//! difference.
+//! all with the plain box, which judges alone where the repository has no say; and `jcc_look_ordinal`
+//! with the plain box and the number of bars. Stops at the first difference.
 
 mod counts;
 mod judge;
 mod lent;
 mod options;
+mod ordinal;
 mod refused;
 mod sheet;
 mod tally;
@@ -40,10 +41,14 @@ fn compare(options: &Options) -> Result<(), String> {
     let mut tally = Tally::new();
     judges.iter().for_each(|judge| tally.add(&judge.tally));
     tally.print();
+    tally.check_ordinals()?;
     println!("{:.0} seconds", start.elapsed().as_secs_f64());
     println!(
-        "feeds: {} rows, {} tallies, {} looks, 0 differences",
-        tally.rows, tally.tallies, tally.looks
+        "feeds: {} rows, {} tallies, {} looks, {} ordinals, 0 differences",
+        tally.rows,
+        tally.tallies,
+        tally.looks,
+        tally.ordinals()
     );
     Ok(())
 }

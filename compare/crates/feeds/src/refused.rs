@@ -2,6 +2,7 @@
 
 use crate::counts::Counts;
 use crate::judge::Difference;
+use crate::ordinal::{self, Ordinal};
 use crate::sheet::Sheet;
 use crate::tally::Tally;
 use crate::text;
@@ -31,8 +32,15 @@ struct Call<'a> {
 enum Export<'a> {
     Feed,
     Look(Look),
+    Ordinal(Look),
     Tally(&'a [u32]),
 }
+
+/// A look that is refused only if its feed is.
+const NEWEST: Look = Look {
+    recogniser: 0,
+    offset: 1,
+};
 
 /// The walk has one bar more than there may be.
 pub fn all(tally: &mut Tally, walk: &[Bar]) -> Result<(), Difference> {
@@ -40,14 +48,19 @@ pub fn all(tally: &mut Tally, walk: &[Bar]) -> Result<(), Difference> {
     prices.extend([0.0; BAR_PRICES]);
     let mut try_call = |call: Call| {
         tally.refusals += 1;
-        call.check()
+        call.check(tally)
             .map_err(|wrong| Difference(call.report(&wrong)))
     };
     let fresh = tallies::fresh(TALLY_COUNTS);
     let other = tallies::of_bars(1);
-    let feeds = [Export::Feed, Export::Tally(&fresh), Export::Tally(&other)];
-    short_feeds(&prices, feeds, &mut try_call)?;
-    long_feeds(&prices, feeds, &mut try_call)?;
+    let exports = [
+        Export::Feed,
+        Export::Ordinal(NEWEST),
+        Export::Tally(&fresh),
+        Export::Tally(&other),
+    ];
+    short_feeds(&prices, exports, &mut try_call)?;
+    long_feeds(&prices, exports, &mut try_call)?;
     looks(&prices, &mut try_call)?;
     all_tallies(&prices, &mut try_call)
 }
@@ -55,7 +68,7 @@ pub fn all(tally: &mut Tally, walk: &[Bar]) -> Result<(), Difference> {
 /// All thresholds, numbers of prices and lengths of sheets together, as long as they are short.
 fn short_feeds(
     prices: &[f64],
-    exports: [Export; 3],
+    exports: [Export; 4],
     try_call: &mut impl FnMut(Call) -> Result<(), Difference>,
 ) -> Result<(), Difference> {
     for thresholds in &refusals::thresholds() {
@@ -80,7 +93,7 @@ fn short_feeds(
 /// The most bars with a sheet that is one byte too short, and one bar more with enough room.
 fn long_feeds(
     prices: &[f64],
-    exports: [Export; 3],
+    exports: [Export; 4],
     try_call: &mut impl FnMut(Call) -> Result<(), Difference>,
 ) -> Result<(), Difference> {
     for (bars, sheet_len) in [
@@ -112,10 +125,10 @@ fn looks(
     for feed in few_feeds(prices) {
         for recogniser in refusals::RECOGNISERS {
             for offset in refusals::LOOK_OFFSETS {
-                try_call(Call {
-                    export: Export::Look(Look { recogniser, offset }),
-                    ..feed
-                })?;
+                let look = Look { recogniser, offset };
+                for export in [Export::Look(look), Export::Ordinal(look)] {
+                    try_call(Call { export, ..feed })?;
+                }
             }
         }
     }
@@ -191,12 +204,18 @@ fn with_sizes<'a, const N: usize>(
 }
 
 impl Call<'_> {
-    fn check(&self) -> Result<(), String> {
+    fn check(&self, compared: &mut Tally) -> Result<(), String> {
         let mut expected = Sheet::new(self.sheet_len);
         let mut tally = port::Tally::of_numbers(self.counts());
         let (t, sizes, prices) = (self.thresholds, self.sizes, self.prices);
         let made = port::tally_in_parts(t, sizes, prices, expected.bytes(), &mut tally);
         let wanted = self.answer(&made);
+        if let Some(told) = self.told(&made) {
+            if wanted != told.number() {
+                return Err(format!("plain box, ordinal {wanted} instead of {told}"));
+            }
+            compared.see_ordinal(told);
+        }
         let mut sheet = Sheet::new(self.sheet_len);
         let mut counts = Counts::new(self.counts());
         let got = self.make(sheet.bytes(), counts.numbers());
@@ -220,7 +239,18 @@ impl Call<'_> {
     fn counts(&self) -> &[u32] {
         match self.export {
             Export::Tally(counts) => counts,
-            Export::Feed | Export::Look(_) => &[],
+            Export::Feed | Export::Look(_) | Export::Ordinal(_) => &[],
+        }
+    }
+
+    /// The ordinal that the number of bars tells, if one is asked for.
+    fn told(&self, made: &Result<PlainBox, u32>) -> Option<Ordinal> {
+        match (made, self.export) {
+            (Ok(_), Export::Ordinal(look)) => {
+                Some(Ordinal::told(self.prices.len() / BAR_PRICES, look))
+            }
+            (Err(_), Export::Ordinal(_)) => Some(Ordinal::Refused),
+            _ => None,
         }
     }
 
@@ -228,11 +258,13 @@ impl Call<'_> {
     fn answer(&self, made: &Result<PlainBox, u32>) -> u32 {
         match (made, self.export) {
             (Err(refusal), Export::Look(_)) => REFUSED + refusal,
+            (Err(_), Export::Ordinal(_)) => 0,
             (Err(refusal), _) => *refusal,
             (Ok(plain), Export::Look(look)) => match plain.look(look.recogniser, look.offset) {
                 Ok(looked) => looked.pair.number(),
                 Err(refusal) => REFUSED + refusal,
             },
+            (Ok(plain), Export::Ordinal(look)) => ordinal::of_plain_box(plain, look),
             (Ok(_), _) => 0,
         }
     }
@@ -244,6 +276,9 @@ impl Call<'_> {
             Export::Look(Look { recogniser, offset }) => {
                 feeds_export::look(recogniser, offset, t, sizes, prices, sheet)
             }
+            Export::Ordinal(Look { recogniser, offset }) => {
+                feeds_export::look_ordinal(recogniser, offset, t, sizes, prices, sheet)
+            }
             Export::Tally(_) => tally_export::tally(t, sizes, prices, sheet, counts),
         }
     }
@@ -252,6 +287,7 @@ impl Call<'_> {
     fn name(&self, answer: u32) -> String {
         match self.export {
             Export::Look(_) => format!("{answer} ({})", Answer(answer)),
+            Export::Ordinal(_) => format!("ordinal {answer}"),
             _ if answer == 0 => "no refusal".to_string(),
             _ => format!("refusal {answer}"),
         }
@@ -261,6 +297,7 @@ impl Call<'_> {
         let call = match self.export {
             Export::Feed => "jcc_feed".to_string(),
             Export::Look(look) => format!("jcc_look, {look:?}"),
+            Export::Ordinal(look) => format!("jcc_look_ordinal, {look:?}"),
             Export::Tally(counts) => format!("jcc_tally, {}", text::tally(counts)),
         };
         format!(

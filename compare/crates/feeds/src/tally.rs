@@ -1,9 +1,13 @@
 //! What was compared.
 
+use crate::ordinal::Ordinal;
 use inputs::families::PIECES;
 use inputs::pairs::possible;
 use jcc_types::{LABELS, RECOGNISERS};
 use oracle::corner::Corner;
+
+/// The kinds of ordinals: the last two are 0.
+const ORDINALS: [&str; 3] = ["of a bar", "beyond the history", "in a refused call"];
 
 pub struct Tally {
     /// Random histories by family, and their bars.
@@ -23,6 +27,8 @@ pub struct Tally {
     pub looks: u64,
     /// Looks within the history, and those of them with another pair than the printed one.
     looked: [u64; 2],
+    /// Ordinals of looks, by kind.
+    ordinals: [u64; ORDINALS.len()],
     /// Calls that may be refused.
     pub refusals: u64,
     /// Pairs in each corner, and how many of them the repository answers otherwise than 01.
@@ -43,6 +49,7 @@ impl Tally {
             patterns: 0,
             looks: 0,
             looked: [0; 2],
+            ordinals: [0; ORDINALS.len()],
             refusals: 0,
             corners: [[0; 2]; Corner::ALL.len()],
             seen: vec![vec![false; LABELS.len() * LABELS.len()]; RECOGNISERS],
@@ -67,6 +74,28 @@ impl Tally {
         add(&mut self.looked, &[1, other.into()]);
     }
 
+    pub fn see_ordinal(&mut self, ordinal: Ordinal) {
+        let kind = match ordinal {
+            Ordinal::Of(_) => 0,
+            Ordinal::Beyond => 1,
+            Ordinal::Refused => 2,
+        };
+        self.ordinals[kind] += 1;
+    }
+
+    pub fn ordinals(&self) -> u64 {
+        self.ordinals.iter().sum()
+    }
+
+    /// An error if a kind of ordinal never came up.
+    pub fn check_ordinals(&self) -> Result<(), String> {
+        let mut kinds = ORDINALS.iter().zip(self.ordinals);
+        match kinds.find(|(_, count)| *count == 0) {
+            Some((kind, _)) => Err(format!("no ordinal {kind} was compared")),
+            None => Ok(()),
+        }
+    }
+
     pub fn add(&mut self, more: &Tally) {
         for (sum, n) in [
             (&mut self.judged, more.judged),
@@ -81,6 +110,7 @@ impl Tally {
             *sum += n;
         }
         add(&mut self.looked, &more.looked);
+        add(&mut self.ordinals, &more.ordinals);
         let histories = self.histories.as_flattened_mut();
         add(histories, more.histories.as_flattened());
         add(self.corners.as_flattened_mut(), more.corners.as_flattened());
@@ -110,6 +140,11 @@ impl Tally {
         println!(
             "Looks: {}; {within} within the history, {other} with another pair than the row's",
             self.looks,
+        );
+        let [_, beyond, refused] = self.ordinals;
+        println!(
+            "Ordinals: {}; {beyond} are 0 beyond the history, {refused} are 0 in a refused call",
+            self.ordinals(),
         );
         println!("Calls that may be refused: {}", self.refusals);
         println!(

@@ -1,5 +1,7 @@
 //! Texts of a report.
 
+use crate::ordinal::Ordinal;
+use inputs::looks::Look;
 use jcc_types::{Answer, Bar, NAMES, Thresholds};
 use std::fmt::Write;
 
@@ -11,6 +13,12 @@ pub fn pair(recogniser: u32, expected: u32, got: u32) -> String {
         Answer(got),
         Answer(expected),
     )
+}
+
+/// The ordinal that a look should give and the one that it gave.
+pub fn ordinal(look: Look, expected: Ordinal, got: u32) -> String {
+    let Look { recogniser, offset } = look;
+    format!("recogniser {recogniser}, offset {offset}: ordinal {got} instead of {expected}")
 }
 
 /// The sizes of feeds, equal ones together.
