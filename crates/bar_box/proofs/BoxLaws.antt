@@ -1,14 +1,14 @@
 -- The box, for any 64 places and any count: which bars it keeps after it took bars in, and that bars may be taken in all at once or
 -- one run after the other; and the prices of bars, as a feed is lent them. Assumes nothing.
-use Prim.Native.Nat.{ℕ, zero, suc, _+_, _-_, _*_, _≤_, min}
-use mathlib.Core.Path.{_≡_, refl, sym, _∙_}
-use mathlib.Core.List.{List, [], _∷_, _++_, append-assoc, append-nil}
+use Prim.Native.Nat.{ℕ, zero, suc, _+_, _-_, _≤_, min}
+use mathlib.Core.Path.{_≡_, sym, _∙_}
+use mathlib.Core.List.{List, [], _++_, append-assoc, append-nil}
 use native.Mathlib.Omega.{arith}
 use native.Mathlib.Decide.{decLe}
 use native.Mathlib.Nat.{add-zero, add-assoc}
 use lib.ListN.{length, take, drop, replicate, length-append, length-take, length-drop, take-append-drop, drop-of-length-le}
 use lib.Seq.{take-all, take-append-seam, drop-append-add, drop-drop}
-use Rattle.measures.specs.Bar.{Bar, barsOf}
+use Rattle.measures.specs.Bar.{Bar}
 use Rattle.measures.specs.Window.{newest}
 use Rattle.recognisers.specs.Number.{places}
 use Rattle.bar_box.specs.declared.boxes.KeptBar.{KeptBar}

@@ -5,9 +5,9 @@ use mathlib.Core.Bool.{Bool, true, false, cond, not}
 use mathlib.Core.List.{List, [], _++_}
 use native.Mathlib.Omega.{arith}
 use native.Mathlib.Nat.{zero-add}
-use lib.ListN.{length, getD, drop}
+use lib.ListN.{length, drop}
 use lib.Ieee.{le, ofBits}
-use Rattle.measures.specs.Bar.{Bar, noBar}
+use Rattle.measures.specs.Bar.{Bar}
 use Rattle.measures.specs.Window.{newest, backOf}
 use Rattle.measures.proofs.WindowLaws.{upTo-in}
 use Rattle.recognisers.specs.Threshold.{Thresholds, standardSet, validOf}
@@ -18,7 +18,6 @@ use Rattle.recognisers.specs.Number.{recognisers, rowBytes, places, farthestLoo
 use Rattle.recognisers.specs.Table.{pairAt, codesOf}
 use Rattle.recognisers.specs.Refusal.{firstTrue}
 use Rattle.bar_box.specs.declared.boxes.BarBox.{BarBox}
-use Rattle.recognisers.specs.declared.call.LookAnswer.{LookAnswer}
 use Rattle.recognisers.specs.declared.call.LookAnswer.the-variants.{Judged}
 use Rattle.bar_box.specs.Sheet.{rowsOf}
 use Rattle.bar_box.specs.Box.{keptBar, numbered, takenIn, emptyPlace, emptyPlaces, freshBox, madeBy, madeOf, lookOf, lookAnswerOf}

@@ -1,7 +1,7 @@
 -- A look at the box that a history left: it gives the pair over the whole history, which for every recogniser but 12 is the pair over the
 -- history up to the judged bar. Assumes nothing.
 use Prim.Native.Nat.{ℕ, _-_, _+_, _≤_, _<_}
-use mathlib.Core.Path.{_≡_, refl, _∙_}
+use mathlib.Core.Path.{_≡_, refl}
 use mathlib.Core.Bool.{true}
 use mathlib.Core.List.{List}
 use mathlib.Core.Logic.{inr}

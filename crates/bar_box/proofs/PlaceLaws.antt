@@ -3,13 +3,12 @@
 use Prim.Native.Nat.{ℕ, _+_, _-_, _≤_, _<_, min}
 use mathlib.Core.Path.{_≡_, refl, sym, ap, _∙_}
 use mathlib.Core.Bool.{Bool, true, false, cond}
-use mathlib.Core.List.{List, [], _∷_, _++_}
+use mathlib.Core.List.{List, _++_}
 use native.Mathlib.Omega.{arith}
-use native.Mathlib.Numerals.{add-one}
 use borrow.Author.Tests.{eqb-true}
 use lib.Dec.{eqb}
 use lib.ListN.{length, getD, take, drop, set, length-append, length-drop}
-use lib.Seq.{take-at, length-take-le, getD-append-add, getD-drop, take-add, drop-drop, drop-append-add, drop-append-le}
+use lib.Seq.{length-take-le, getD-append-add, getD-drop, take-add, drop-drop, drop-append-add}
 use Rattle.measures.specs.Bar.{Bar}
 use Rattle.recognisers.specs.Number.{places}
 use Rattle.bar_box.specs.declared.boxes.KeptBar.{KeptBar}

@@ -1,12 +1,12 @@
 -- What a feed does with the places: the newest kept bars and the first lent ones as one run, the rows over it and over the lent bars, and
 -- the places after the bars are taken in. Assumes nothing.
-use Prim.Native.Nat.{ℕ, _+_, _-_, _*_, _≤_, _<_, min}
+use Prim.Native.Nat.{ℕ, _+_, _-_, _*_, _≤_, min}
 use mathlib.Core.Path.{_≡_, refl, ap, sym, _∙_}
-use mathlib.Core.List.{List, [], _∷_, _++_, append-assoc, append-nil}
+use mathlib.Core.List.{List, [], _∷_, _++_, append-nil}
 use native.Mathlib.Omega.{arith}
 use native.Mathlib.Decide.{decLe}
 use lib.ListN.{length, take, drop, length-append, length-drop, length-map, take-append-drop, drop-of-length-le}
-use lib.Seq.{take-at, drop-at, take-all, take-length, length-take-le, drop-append-le, drop-append-add}
+use lib.Seq.{take-at, drop-at, take-length, length-take-le, drop-append-le, drop-append-add}
 use lib.Ieee.{Float}
 use Rattle.measures.specs.Bar.{Bar, barsOf}
 use Rattle.measures.specs.Window.{newest}

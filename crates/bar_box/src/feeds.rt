@@ -73,8 +73,8 @@ fn take_in(b: BarBox, prices: &[f64], sheet: &mut [u8]) -> BarBox
     let kept = least(count as usize, PLACES);
     let old = least(kept, BEFORE);
     let from = kept - old;
-    // room for 42 bars
-    let mut run = [0.0; 168];
+    // room for twice the reach
+    let mut run = [0.0; 176];
     let mut i = 0usize;
     while i < old {
         let place = after.bars[from + i];

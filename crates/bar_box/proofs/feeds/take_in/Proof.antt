@@ -1,12 +1,11 @@
 -- The newest kept bars at the front of the run, the rows, and then the places: those that stay move to the front, and the newest lent bars
 -- come behind them. Assumes nothing.
-use Prim.Native.Nat.{_+_, _-_, _*_, _≤_, _<_}
+use Prim.Native.Nat.{_+_, _-_, _≤_, _<_}
 use mathlib.Core.Path.{_≡_, refl, sym, ap, _∙_}
 use native.Mathlib.Omega.{arith}
 use borrow.Author.Needs.{needs}
 use lib.ListN.{length, getD, take, drop, set, length-set, length-drop, length-map}
-use Rattle.measures.specs.Bar.{noBar, barsOf}
-use Rattle.measures.proofs.RunLaws.{length-bars}
+use Rattle.measures.specs.Bar.{barsOf}
 use Rattle.bar_box.specs.Sheet.{overlay}
 use Rattle.bar_box.specs.Box.{numbered, barsIn}
 use Rattle.bar_box.specs.History.{pricesOf}
@@ -20,7 +19,7 @@ use Rattle.bar_box.proofs.feeds.take_in.Statement.{statement}
 use Rattle.bar_box.proofs.feeds.take_in.Tie as tie
 
 abbrev Inv-loop : tie.InvT-loop
-Inv-loop prices sheet t count after kept old from run₀ i₀ run i = (i ≤ old) × (length run ≡ 168) × (run ≡ overlay run₀ 0 (pricesOf (take i (drop from (barsIn (after .bars))))))
+Inv-loop prices sheet t count after kept old from run₀ i₀ run i = (i ≤ old) × (length run ≡ 176) × (run ≡ overlay run₀ 0 (pricesOf (take i (drop from (barsIn (after .bars))))))
 
 abbrev μ-loop : tie.MeasureT-loop
 μ-loop prices sheet t count after kept old from run₀ i₀ run i = old - i
