@@ -2,7 +2,7 @@
 -- one run after the other; and the prices of bars, as a feed is lent them. Assumes nothing.
 use Prim.Native.Nat.{ℕ, zero, suc, _+_, _-_, _≤_, min}
 use mathlib.Core.Path.{_≡_, sym, _∙_}
-use mathlib.Core.List.{List, [], _++_, append-assoc, append-nil}
+use mathlib.Core.List.{List, [], _++_, append-assoc, append-nil, map-append}
 use native.Mathlib.Omega.{arith}
 use native.Mathlib.Decide.{decLe}
 use native.Mathlib.Nat.{add-zero, add-assoc}
@@ -15,7 +15,7 @@ use Rattle.bar_box.specs.declared.boxes.KeptBar.{KeptBar}
 use Rattle.bar_box.specs.declared.boxes.BarBox.{BarBox}
 use Rattle.bar_box.specs.Box.{numbered, held, kept, laid, takenIn}
 use Rattle.bar_box.proofs.SheetLaws.{newest-append}
-use Rattle.bar_box.proofs.OrdinalLaws.{map-append, map-newest, length-numbered, bars-numbered, numbered-append}
+use Rattle.bar_box.proofs.OrdinalLaws.{map-newest, length-numbered, bars-numbered, numbered-append}
 
 -- ---- lists
 

@@ -2,7 +2,7 @@
 use Prim.Native.Nat.{ℕ, _+_, _-_, _*_, _≤_, _<_, min}
 use mathlib.Core.Path.{_≡_, refl, ap, sym, _∙_}
 use mathlib.Core.Bool.{Bool, true, false, cond, not}
-use mathlib.Core.List.{List, [], _++_}
+use mathlib.Core.List.{List, [], _∷_, _++_}
 use native.Mathlib.Omega.{arith}
 use native.Mathlib.Nat.{zero-add}
 use lib.ListN.{length, drop}
@@ -14,14 +14,14 @@ use Rattle.recognisers.specs.Threshold.{Thresholds, standardSet, validOf}
 use Rattle.recognisers.specs.declared.call.Refusal.the-variants.{BadThreshold}
 use Rattle.recognisers.specs.declared.call.Verdict.the-variants.{Accepted, Denied}
 use Rattle.recognisers.specs.declared.call.Answer.the-variants.{Labels}
-use Rattle.recognisers.specs.Number.{recognisers, rowBytes, places, farthestLook}
+use Rattle.recognisers.specs.declared.call.LookAnswer.the-variants.{Judged}
+use Rattle.recognisers.specs.Number.{recognisers, rowBytes, gated, places, farthestLook}
 use Rattle.recognisers.specs.Table.{pairAt, codesOf}
 use Rattle.recognisers.specs.Refusal.{firstTrue}
 use Rattle.bar_box.specs.declared.boxes.BarBox.{BarBox}
-use Rattle.recognisers.specs.declared.call.LookAnswer.the-variants.{Judged}
 use Rattle.bar_box.specs.Sheet.{rowsOf}
 use Rattle.bar_box.specs.Box.{keptBar, numbered, takenIn, emptyPlace, emptyPlaces, freshBox, madeBy, madeOf, lookOf, lookAnswerOf}
-use Rattle.bar_box.specs.History.{Feed, historyAfter, boxAfter, verdictsOf, joinedRows, barWith, inPlace, Holds, NoBars, Fresh, ZerosLeft, Demand3}
+use Rattle.bar_box.specs.History.{Feed, historyAfter, boxAfter, verdictsOf, joinedRows, printed, barWith, inPlace, Holds, NoBars, Fresh, ZerosLeft, Demand3}
 use Rattle.bar_box.proofs.SheetLaws.{length-rows}
 use Rattle.bar_box.proofs.OrdinalLaws.{length-numbered, place-at}
 use Rattle.bar_box.proofs.BoxLaws.{drop-replicate}
@@ -87,6 +87,15 @@ module _ (b : BarBox) (start : NoBars b) (fs : List Feed) where
       let m = min n places in
       kept-place (m - di + 1) (omega arith) (omega arith) ∙ rw (back-from n m di (omega arith) (omega arith), judged-bar di one within)
 
+  -- the pair at an offset is the printed one of the bar that it judges, of all but 12
+  printed-pair : (di k : ℕ) → 1 ≤ di → di ≤ length joined → k < recognisers → (k ≡ gated → ⊥)
+      → codesOf (pairAt k (b .thresholds) (length joined) joined di ∷ []) ≡ printed (joinedRows b fs) (length joined - di) k
+  printed-pair di k one within known other =
+      let t = b .thresholds in
+      let n = length joined in
+      let up-to-it = pair-up-to joined di (n - di + 1) (upTo-in n di one within) k t other in
+      rw (joined-rows, pair-in t joined (n - di) k (omega arith) known, up-to-it)
+
   -- demand 3 for this box and these feeds
   holds-after : (sheet : List ℕ) → rowBytes * length joined ≤ length sheet → Holds b fs joined sheet
   unfolding codesOf
@@ -112,10 +121,7 @@ module _ (b : BarBox) (start : NoBars b) (fs : List Feed) where
         final-box = whole-box;
         -- "An offset is within the history if it is at least 1 and at most the history's count; a look at it judges the bar that many from
         -- the history's end." So it gives that bar's printed pair, of all but 12
-        look-printed = λ di k one near within known other.
-            let p = length h - di + 1 in
-            let up-to-it = pair-up-to h di p (upTo-in (length h) di one within) k t other in
-            rw (look-joined di k one near within known, joined-rows, pair-in t h (length h - di) k (omega arith) known, up-to-it);
+        look-printed = λ di k one near within known other. rw (look-joined di k one near within known) (printed-pair di k one within known other);
         -- "In a look, 12's pair over the whole history takes the history's count for len."
         look-whole = look-joined;
         -- 02: "Each bar's ordinal is written in the record that the box keeps."
@@ -125,10 +131,8 @@ module _ (b : BarBox) (start : NoBars b) (fs : List Feed) where
         look-judges = λ di k one near within known. rw (look-full di k one near within known) (judged-bar di one within);
         look-kept = λ di k one near within known. rw (look-full di k one near within known) (judged-place di one near within);
         look-row = λ di k one near within known other.
-            let p = length h - di + 1 in
-            let back : p - 1 ≡ length h - di = omega arith in
-            let up-to-it = pair-up-to h di p (upTo-in (length h) di one within) k t other in
-            rw (look-full di k one near within known, back, joined-rows, pair-in t h (length h - di) k (omega arith) known, up-to-it);
+            let back : length h - di + 1 - 1 ≡ length h - di = omega arith in
+            rw (look-full di k one near within known, back) (printed-pair di k one within known other);
         -- "or 0 where there is none"
         look-beyond = λ di k beyond. rw joined-box (look-beyond b start h k di beyond);
       }

@@ -16,13 +16,13 @@ use Rattle.recognisers.specs.Threshold.{Thresholds, validOf}
 use Rattle.recognisers.specs.declared.call.Verdict.the-variants.{Accepted}
 use Rattle.recognisers.specs.declared.call.Answer.{Answer}
 use Rattle.recognisers.specs.declared.call.Answer.the-variants.{Labels, Refused}
+use Rattle.recognisers.specs.declared.call.LookAnswer.the-variants.{Judged}
 use Rattle.recognisers.specs.Number.{recognisers, gated, reachBars, mostBars, farthestLook}
 use Rattle.recognisers.specs.Table.{pairAt}
 use Rattle.recognisers.specs.Refusal.{firstTrue, ordinalIn}
 use Rattle.recognisers.proofs.Reach as reach
 use Rattle.recognisers.proofs.TableLaws.{judge-gateless}
 use Rattle.bar_box.specs.declared.boxes.BarBox.{BarBox}
-use Rattle.recognisers.specs.declared.call.LookAnswer.the-variants.{Judged}
 use Rattle.bar_box.specs.Box.{takenIn, lookVerdict, lookOf, withOrdinal, lookAnswerOf}
 use Rattle.bar_box.specs.History.{NoBars}
 use Rattle.bar_box.proofs.FeedSteps.{count-after, kept-after}

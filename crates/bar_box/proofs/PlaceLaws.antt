@@ -43,6 +43,14 @@ by-one-few gone stay near is = go (eqb gone 1) is
     go true e = omega arith
     go false e = omega arith
 
+-- and one place is left ahead of those that it moves
+pub by-one-room : (gone stay near m : ℕ) → near ≡ cond (eqb gone 1) stay 0 → gone + stay ≤ m + 1 → near ≤ m
+by-one-room gone stay near m is room = go (eqb gone 1) refl is
+  where
+    go : (t : Bool) → eqb gone 1 ≡ t → near ≡ cond t stay 0 → near ≤ m
+    go true e is = omega (arith, eqb-true gone 1 e)
+    go false e is = omega arith
+
 module _ {A : Type 0} where
   -- the elements from a place on, before another, are those that stood some places further
   abbrev pub shifted : List A → ℕ → ℕ → ℕ → List A

@@ -10,7 +10,7 @@ use lib.Seq.{take-at, drop-at, take-length, length-take-le, drop-append-le, drop
 use lib.Ieee.{Float}
 use Rattle.measures.specs.Bar.{Bar, barsOf}
 use Rattle.measures.specs.Window.{newest}
-use Rattle.measures.proofs.RunLaws.{bars-take, bars-drop}
+use Rattle.measures.proofs.RunLaws.{length-bars, bars-take, bars-drop}
 use Rattle.measures.proofs.WindowLaws.{drop-take}
 use Rattle.recognisers.specs.Threshold.{Thresholds}
 use Rattle.recognisers.specs.Number.{places, rowBytes}
@@ -49,7 +49,7 @@ bars-append n ps qs e =
     sym (take-append-drop n (barsOf all)) ∙ rw (front, back)
 
 -- the prices of m bars that are written behind the first n bars of a run are its next bars
-pub seam-bars : (s ps : List Float) (n m : ℕ) → 4 * m ≤ length ps → 4 * n + 4 * m ≤ length s
+seam-bars : (s ps : List Float) (n m : ℕ) → 4 * m ≤ length ps → 4 * n + 4 * m ≤ length s
     → barsOf (take (4 * n + 4 * m) (overlay s (4 * n) (take (4 * m) ps))) ≡ take n (barsOf s) ++ take m (barsOf ps)
 seam-bars s ps n m enough room =
     let first : length (take (4 * n) s) ≡ 4 * n = length-take-le (4 * n) s (omega arith) in
@@ -58,6 +58,14 @@ seam-bars s ps n m enough room =
     let four-n : 4 * n ≡ n * 4 = omega arith in
     let four-m : 4 * m ≡ m * 4 = omega arith in
     rw (take-at (take (4 * n) s ++ take (4 * m) ps) _ (4 * n + 4 * m) both, bars-append n (take (4 * n) s) (take (4 * m) ps) (omega arith), four-n, four-m, bars-take n s, bars-take m ps)
+
+-- the run, as a feed fills it: bars that stood at its front, n of them, and the first lent ones behind them
+pub run-seam : (s ps run : List Float) (n m : ℕ) → 168 ≤ length s → n ≤ before → m ≡ min (length (barsOf ps)) before → run ≡ overlay s (4 * n) (take (4 * m) ps)
+    → (length (take n (barsOf s)) ≡ n) × (barsOf (take (4 * n + 4 * m) run) ≡ take n (barsOf s) ++ take m (barsOf ps))
+run-seam s ps run n m long near m-is run-is =
+    let held = length-bars s in
+    let lent = length-bars ps in
+    (length-take-le n (barsOf s) (omega arith), rw run-is (seam-bars s ps n m (omega arith) (omega arith)))
 
 -- ---- the newest kept bars
 

@@ -12,13 +12,13 @@ use Rattle.recognisers.specs.Threshold.{Thresholds, standardSet, validOf}
 use Rattle.recognisers.specs.declared.call.Verdict.{Verdict}
 use Rattle.recognisers.specs.declared.call.Verdict.the-variants.{Accepted}
 use Rattle.recognisers.specs.declared.call.Answer.the-variants.{Labels}
+use Rattle.recognisers.specs.declared.call.LookAnswer.the-variants.{Judged}
 use Rattle.recognisers.specs.Number.{recognisers, rowBytes, gated, places, farthestLook}
 use Rattle.recognisers.specs.Table.{pairAt, codesOf}
 use Rattle.recognisers.specs.Refusal.{codesIn, answerIn, ordinalIn}
 use Rattle.bar_box.specs.declared.boxes.KeptBar.{KeptBar}
 use Rattle.bar_box.specs.declared.boxes.BarBox.{BarBox}
 use Rattle.bar_box.specs.declared.boxes.Outcome.{Outcome}
-use Rattle.recognisers.specs.declared.call.LookAnswer.the-variants.{Judged}
 use Rattle.bar_box.specs.Box.{keptBar, numbered, emptyPlace, madeOf, feedVerdict, leaves, fedOf, sheetOf, lookOf, lookAnswerOf}
 
 -- what a feed is lent

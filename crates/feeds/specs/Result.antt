@@ -6,11 +6,11 @@ use lib.Ieee.{Float}
 use Rattle.recognisers.specs.Threshold.{Thresholds}
 use Rattle.recognisers.specs.declared.call.Verdict.{Verdict}
 use Rattle.recognisers.specs.declared.call.Verdict.the-variants.{Accepted, Denied}
+use Rattle.recognisers.specs.declared.call.LookAnswer.{LookAnswer}
+use Rattle.recognisers.specs.declared.call.LookAnswer.the-variants.{Refused}
 use Rattle.recognisers.specs.Refusal.{refusalNumber, answerTo, ordinalIn}
 use Rattle.recognisers.specs.Export.{resultOf}
 use Rattle.bar_box.specs.declared.boxes.Outcome.{Outcome}
-use Rattle.recognisers.specs.declared.call.LookAnswer.{LookAnswer}
-use Rattle.recognisers.specs.declared.call.LookAnswer.the-variants.{Refused}
 use Rattle.bar_box.specs.Box.{freshBox, fedOf, lookOf, lookAnswerOf}
 
 -- one feed of all the prices to a fresh box with these thresholds

@@ -1,5 +1,5 @@
 -- The rows over the run, then those over the lent prices. Assumes nothing.
-use Prim.Native.Nat.{_+_, _*_, _≤_}
+use Prim.Native.Nat.{_+_, min}
 use mathlib.Core.Path.{_≡_, _∙_}
 use mathlib.Core.List.{_++_}
 use native.Mathlib.Omega.{arith}
@@ -7,7 +7,8 @@ use lib.ListN.{length, take, length-take, length-append}
 use lib.Seq.{length-take-le}
 use Rattle.measures.specs.Bar.{barsOf}
 use Rattle.measures.proofs.RunLaws.{length-bars}
-use Rattle.bar_box.proofs.SeamLaws.{seam-bars, feed-sheet}
+use Rattle.bar_box.specs.Sheet.{before}
+use Rattle.bar_box.proofs.SeamLaws.{run-seam, feed-sheet}
 use borrow.Author.Needs.{needs}
 use Rattle.bar_box.proofs.feeds.label.Statement.{statement}
 use Rattle.bar_box.proofs.feeds.label.Tie as tie
@@ -54,17 +55,12 @@ label-run-requires c κs =
     let start = counted .before .before .before .before in
     let args = start .args in
     let bars = barsOf (args .prices .now) in
-    let old = args .old in
     let new = few .least .result in
-    let total = length-bars (args .prices .now) in
-    let held = length-bars (args .run .now) in
-    let some : new ≤ length bars = omega (arith, counted .count .ensures, few .least .ensures) in
-    let near : new ≤ 21 = omega (arith, few .least .ensures) in
-    let h = take old (barsOf (args .run .now)) in
-    let size : length h ≡ old = length-take-le old (barsOf (args .run .now)) (omega (arith, start .pre .0, start .pre .1)) in
-    let seam : barsOf (take (4 * old + 4 * new) (put .put-prices .last .1 .1 .0)) ≡ h ++ take new bars = rw (put .put-prices .ensures) (seam-bars (args .run .now) (args .prices .now) old new (omega arith) (omega (arith, start .pre .0, start .pre .1))) in
-    let both : length (h ++ take new bars) ≡ old + new = rw (length-append, size, length-take-le new bars some) in
-    rw seam (omega (arith, both, start .pre .2, start .pre .3))
+    let new-is : new ≡ min (length bars) before = few .least .ensures ∙ rw (counted .count .ensures) in
+    let seam = run-seam (args .run .now) (args .prices .now) (put .put-prices .last .1 .1 .0) (args .old) new (start .pre .0) (start .pre .1) new-is (put .put-prices .ensures) in
+    let some = length-take-le new bars (omega (arith, new-is)) in
+    let both : length (take (args .old) (barsOf (args .run .now)) ++ take new bars) ≡ args .old + new = rw (length-append, seam .0, some) in
+    rw (seam .1) (omega (arith, both, new-is, start .pre .2, start .pre .3))
 
 add-label-run : tie.Need-add-label-run
 add-label-run c = search needs
@@ -91,16 +87,10 @@ returns c =
     let start = counted .before .before .before .before in
     let args = start .args in
     let bars = barsOf (args .prices .now) in
-    let old = args .old in
     let new = few .least .result in
-    let total = length-bars (args .prices .now) in
-    let held = length-bars (args .run .now) in
-    let some : new ≤ length bars = omega (arith, counted .count .ensures, few .least .ensures) in
-    let near : new ≤ 21 = omega (arith, few .least .ensures) in
-    let h = take old (barsOf (args .run .now)) in
-    let size : length h ≡ old = length-take-le old (barsOf (args .run .now)) (omega (arith, start .pre .0, start .pre .1)) in
-    let seam : barsOf (take (4 * old + 4 * new) (put .put-prices .last .1 .1 .0)) ≡ h ++ take new bars = rw (put .put-prices .ensures) (seam-bars (args .run .now) (args .prices .now) old new (omega arith) (omega (arith, start .pre .0, start .pre .1))) in
-    again .label-run2 .ensures ∙ rw (run .label-run .ensures, seam) (feed-sheet (args .t) (args .count) h bars old new (args .sheet .now) size (few .least .ensures ∙ rw (counted .count .ensures)) (start .pre .3))
+    let new-is : new ≡ min (length bars) before = few .least .ensures ∙ rw (counted .count .ensures) in
+    let seam = run-seam (args .run .now) (args .prices .now) (put .put-prices .last .1 .1 .0) (args .old) new (start .pre .0) (start .pre .1) new-is (put .put-prices .ensures) in
+    again .label-run2 .ensures ∙ rw (run .label-run .ensures, seam .1) (feed-sheet (args .t) (args .count) (take (args .old) (barsOf (args .run .now))) bars (args .old) new (args .sheet .now) (seam .0) new-is (start .pre .3))
 
 pub label-spec : {M : Type 1} → statement M
 label-spec =

@@ -14,7 +14,7 @@ use Rattle.bar_box.proofs.PriceLaws.{overlay-bar}
 use Rattle.bar_box.specs.declared.boxes.BarBox.{BarBox}
 use Rattle.bar_box.proofs.OrdinalLaws.{noKept, bar-at, length-numbered, numbered-from}
 use Rattle.bar_box.proofs.SeamLaws.{run-rows}
-use Rattle.bar_box.proofs.PlaceLaws.{withBars, by-one-moves, by-one-few, shifted, shifted-start, shifted-next, places-taken}
+use Rattle.bar_box.proofs.PlaceLaws.{withBars, by-one-moves, by-one-few, by-one-room, shifted, shifted-start, shifted-next, places-taken}
 use Rattle.bar_box.proofs.feeds.take_in.Statement.{statement}
 use Rattle.bar_box.proofs.feeds.take_in.Tie as tie
 
@@ -25,7 +25,7 @@ abbrev μ-loop : tie.MeasureT-loop
 μ-loop prices sheet t count after kept old from run₀ i₀ run i = old - i
 
 abbrev Inv-loop2 : tie.InvT-loop2
-Inv-loop2 prices sheet count after₀ kept old from i n new stay gone near j₀ after j = (j ≤ near) × (j₀ ≤ j) × (length (after .bars) ≡ 64) × (after ≡ withBars after₀ (shifted (after₀ .bars) j₀ gone j))
+Inv-loop2 prices sheet count after₀ kept old from i n new stay gone near j₀ after j = (j ≤ near) × (near ≤ 63) × (length (after .bars) ≡ 64) × (after ≡ withBars after₀ (shifted (after₀ .bars) j₀ gone j))
 
 abbrev μ-loop2 : tie.MeasureT-loop2
 μ-loop2 prices sheet count after₀ kept old from i n new stay gone near j₀ after j = near - j
@@ -167,29 +167,20 @@ by-one-requires c κs = search needs
 loop2-holds :
     tie.Need-loop2-holds Inv-loop μ-loop Inv-loop2 μ-loop2 Inv-loop3 μ-loop3 Inv-loop4 μ-loop4
 loop2-holds c =
-    let two = c .before .before .before .before .before .before .before .before .before .before .before .before in
-    let start = two .before .before .before .before .before in
+    let four = c .before in
+    let two = four .before .before .before .before .before .before .before .before .before .before .before in
+    let first = two .before in
+    let start = first .before .before .before .before in
     let full : length (start .args .b .bars) ≡ 64 = simp length-map at (start .good .0 .1 .1 .1 .1 .0 .1 .0 .1) in
-    (search needs, search needs, full, refl)
+    let stay = four .least4 .result in
+    let room = by-one-room (first .least .result - stay) stay (c .by-one .result) 63 (c .by-one .ensures) (omega (arith, first .least .ensures, four .least4 .ensures)) in
+    (search needs, room, full, refl)
 
 add-next : tie.Need-add-next Inv-loop μ-loop Inv-loop2 μ-loop2 Inv-loop3 μ-loop3 Inv-loop4 μ-loop4
 add-next c = search needs
 
 mul-next : tie.Need-mul-next Inv-loop μ-loop Inv-loop2 μ-loop2 Inv-loop3 μ-loop3 Inv-loop4 μ-loop4
-mul-next c =
-    let lp = c .before in
-    let one = lp .before in
-    let four = one .before in
-    let three = four .before in
-    let counted = three .before in
-    let labelled = counted .before .before .before .before in
-    let left = labelled .before .before .before in
-    let two = left .before .before in
-    let first = two .before in
-    let gone = first .least .result - four .least4 .result in
-    let stay = four .least4 .result in
-    let moves = by-one-moves gone stay (one .by-one .result) (lp .loop2 .j) (one .by-one .ensures) (c .loop2-test .taken) in
-    omega (arith, moves .0, moves .1, four .least4 .ensures, three .least3 .ensures, first .least .ensures)
+mul-next c = search needs
 
 element-copy-out-next :
     tie.Need-element-copy-out-next
@@ -201,37 +192,11 @@ element-copy-out-next :
     μ-loop3
     Inv-loop4
     μ-loop4
-element-copy-out-next c =
-    let lp = c .before in
-    let one = lp .before in
-    let four = one .before in
-    let three = four .before in
-    let counted = three .before in
-    let labelled = counted .before .before .before .before in
-    let left = labelled .before .before .before in
-    let two = left .before .before in
-    let first = two .before in
-    let gone = first .least .result - four .least4 .result in
-    let stay = four .least4 .result in
-    let moves = by-one-moves gone stay (one .by-one .result) (lp .loop2 .j) (one .by-one .ensures) (c .loop2-test .taken) in
-    omega (arith, moves .0, moves .1, four .least4 .ensures, three .least3 .ensures, first .least .ensures)
+element-copy-out-next c = search needs
 
 mul-next-2 :
     tie.Need-mul-next-2 Inv-loop μ-loop Inv-loop2 μ-loop2 Inv-loop3 μ-loop3 Inv-loop4 μ-loop4
-mul-next-2 c =
-    let lp = c .before .before in
-    let one = lp .before in
-    let four = one .before in
-    let three = four .before in
-    let counted = three .before in
-    let labelled = counted .before .before .before .before in
-    let left = labelled .before .before .before in
-    let two = left .before .before in
-    let first = two .before in
-    let gone = first .least .result - four .least4 .result in
-    let stay = four .least4 .result in
-    let moves = by-one-moves gone stay (one .by-one .result) (lp .loop2 .j) (one .by-one .ensures) (c .before .loop2-test .taken) in
-    omega (arith, moves .0, moves .1, four .least4 .ensures, three .least3 .ensures, first .least .ensures)
+mul-next-2 c = search needs
 
 element-set-from-next :
     tie.Need-element-set-from-next
@@ -243,20 +208,7 @@ element-set-from-next :
     μ-loop3
     Inv-loop4
     μ-loop4
-element-set-from-next c =
-    let lp = c .before .before in
-    let one = lp .before in
-    let four = one .before in
-    let three = four .before in
-    let counted = three .before in
-    let labelled = counted .before .before .before .before in
-    let left = labelled .before .before .before in
-    let two = left .before .before in
-    let first = two .before in
-    let gone = first .least .result - four .least4 .result in
-    let stay = four .least4 .result in
-    let moves = by-one-moves gone stay (one .by-one .result) (lp .loop2 .j) (one .by-one .ensures) (c .before .loop2-test .taken) in
-    omega (arith, moves .0, moves .1, four .least4 .ensures, three .least3 .ensures, first .least .ensures)
+element-set-from-next c = search needs
 
 add-j : tie.Need-add-j Inv-loop μ-loop Inv-loop2 μ-loop2 Inv-loop3 μ-loop3 Inv-loop4 μ-loop4
 add-j c = search needs
