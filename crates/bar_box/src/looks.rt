@@ -46,7 +46,13 @@ fn pair_back(t: Thresholds, count: u32, bars: [KeptBar; 64], k: u32, di: u32) ->
 {
     let kept = least(count as usize, counts::PLACES);
     let mut run = [0.0; 256];
-    runs::put_bars(bars, 0, kept, &mut run);
+    let mut i = 0usize;
+    while i < kept {
+        let place = bars[i];
+        let bar = place.bar;
+        runs::put_bar(bar, &mut run, i);
+        i += 1;
+    }
     let end = 4 * kept;
     table::pair_at(k, t, count as usize, &run[..end], di as usize)
 }
