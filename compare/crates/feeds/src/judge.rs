@@ -248,24 +248,14 @@ impl Judge {
             Some(refusal) => REFUSED + refusal,
             None => self.looked(rows, trial, look)?,
         };
-        let mut sheet = Sheet::new(trial.sheet_len());
-        let ours = feeds_export::look(
-            recogniser,
-            offset,
-            &trial.thresholds,
-            &trial.sizes,
-            &trial.prices(),
-            sheet.bytes(),
-        );
+        let ours = ask("jcc_look", feeds_export::look, rows, trial, look)?;
         let plain = number(plain.look(recogniser, offset));
         for (who, got) in [("jcc_look", ours), ("look at the plain box", plain)] {
             if got != expected {
                 return Err(format!("{who}, {}", text::pair(recogniser, expected, got)));
             }
         }
-        sheet
-            .check(rows)
-            .map_err(|wrong| format!("jcc_look, {wrong}"))
+        Ok(())
     }
 
     /// The pair that a look must give. All recognisers but one give what was printed.
@@ -315,34 +305,51 @@ fn number(outcome: Result<Looked, u32>) -> u32 {
     }
 }
 
-/// The ordinal, if all say the same and the sheet is that of the feeds.
+/// The ordinal, if all say the same.
 fn check_ordinal(
     rows: &[u8],
     plain: &PlainBox,
     trial: &Trial,
     look: Look,
 ) -> Result<Ordinal, String> {
-    let Look { recogniser, offset } = look;
     let expected = Ordinal::told(trial.bars.len(), look);
-    let mut sheet = Sheet::new(trial.sheet_len());
-    let ours = feeds_export::look_ordinal(
-        recogniser,
-        offset,
-        &trial.thresholds,
-        &trial.sizes,
-        &trial.prices(),
-        sheet.bytes(),
-    );
+    let ours = ask(
+        "jcc_look_ordinal",
+        feeds_export::look_ordinal,
+        rows,
+        trial,
+        look,
+    )?;
     let plain = ordinal::of_plain_box(plain, look);
     for (who, got) in [("jcc_look_ordinal", ours), ("look at the plain box", plain)] {
         if got != expected.number() {
             return Err(format!("{who}, {}", text::ordinal(look, expected, got)));
         }
     }
-    sheet
-        .check(rows)
-        .map_err(|wrong| format!("jcc_look_ordinal, {wrong}"))?;
     Ok(expected)
+}
+
+/// What an export says of a look, if the sheet that it leaves is that of the feeds.
+fn ask(
+    name: &str,
+    export: fn(u32, u32, &Thresholds, &[u32], &[f64], &mut [u8]) -> u32,
+    rows: &[u8],
+    trial: &Trial,
+    look: Look,
+) -> Result<u32, String> {
+    let mut sheet = Sheet::new(trial.sheet_len());
+    let said = export(
+        look.recogniser,
+        look.offset,
+        &trial.thresholds,
+        &trial.sizes,
+        &trial.prices(),
+        sheet.bytes(),
+    );
+    match sheet.check(rows) {
+        Ok(()) => Ok(said),
+        Err(wrong) => Err(format!("{name}, {wrong}")),
+    }
 }
 
 /// The feeds without and with a tally.
