@@ -73,8 +73,8 @@ fn take_in(b: BarBox, prices: &[f64], sheet: &mut [u8]) -> BarBox
     let kept = least(count as usize, PLACES);
     let old = least(kept, BEFORE);
     let from = kept - old;
-    // room for as many bars as the box keeps, of which 42 are used: so the boxes that are copied lie well apart in the pages of memory
-    let mut run = [0.0; 256];
+    // 42 bars are used; with room for 56 the boxes that are copied lie well apart in the pages of memory
+    let mut run = [0.0; 224];
     let mut i = 0usize;
     while i < old {
         let place = after.bars[from + i];

@@ -19,7 +19,7 @@ use Rattle.bar_box.proofs.feeds.take_in.Statement.{statement}
 use Rattle.bar_box.proofs.feeds.take_in.Tie as tie
 
 abbrev Inv-loop : tie.InvT-loop
-Inv-loop prices sheet t count after kept old from run₀ i₀ run i = (i ≤ old) × (length run ≡ 256) × (run ≡ overlay run₀ 0 (pricesOf (take i (drop from (barsIn (after .bars))))))
+Inv-loop prices sheet t count after kept old from run₀ i₀ run i = (i ≤ old) × (length run ≡ 224) × (run ≡ overlay run₀ 0 (pricesOf (take i (drop from (barsIn (after .bars))))))
 
 abbrev μ-loop : tie.MeasureT-loop
 μ-loop prices sheet t count after kept old from run₀ i₀ run i = old - i
