@@ -202,6 +202,13 @@ module _ (b : BarBox) (bar : Bar) (o : Outcome) (e : o ≡ fedOf b (pricesOf (ba
   unfolding fedStep
   fed-refused r d = rw (← e, d)
 
+  -- a refused feed leaves the box
+  pub fed-left : (r : Refusal) → o .verdict ≡ Denied r → o .after ≡ b
+  unfolding fedOf
+  fed-left r d =
+      let denied : fedOf b (pricesOf (bar ∷ [])) rowBytes .verdict ≡ Denied r = sym (ap (λ (x : Outcome). x .verdict) e) ∙ d in
+      ap (λ (x : Outcome). x .after) e ∙ rw denied
+
   pub fed-accepted : o .verdict ≡ Accepted
       → fedStep b bar ≡ record { printed = rowLines (b .count + 1) 0 (sheetOf b (pricesOf (bar ∷ [])) (replicate rowBytes 0)); after = o .after; stops = false }
   unfolding fedStep

@@ -92,16 +92,17 @@ fn feed_bar(held: BarBox, bar: Bar, out: &mut [u8], at: usize) -> Stepped
     requires { ⌜ at + lineRoom ≤ length (now out) ⌝ }
     ensures { λ r. ⌜ (r .held ≡ fedStep held bar .after) × (r .stops ≡ fedStep held bar .stops) × (r .at ≤ at + lineRoom) × (r .at ≡ at + length (fedStep held bar .printed)) × (now (out .exit) ≡ overlay (now (out .entry)) at (fedStep held bar .printed)) ⌝ }
 {
+    let ordinal = held.count as u64 + 1;
     let prices = [bar.open, bar.close, bar.high, bar.low];
     let mut sheet = [0u8; 36];
     let fed = bar_box::feed(held, &prices, &mut sheet);
     let verdict = fed.verdict;
+    // a refused feed leaves the box, which is not copied for it
+    let after = fed.after;
     match verdict {
-        Verdict::Denied(why) => refuse(held, why, out, at),
+        Verdict::Denied(why) => refuse(after, why, out, at),
         Verdict::Accepted => {
-            let ordinal = held.count as u64 + 1;
             let end = output::write_rows(ordinal, &sheet, out, at);
-            let after = fed.after;
             Stepped {
                 held: after,
                 stops: false,
