@@ -54,10 +54,6 @@ module _ {A : Type 0} where
   unfolding newest
   newest-few n bars few = let none : length bars - n ≡ 0 = omega arith in rw none
 
-  -- the newest n of the newest m are the newest n, if n is no more than m
-  pub newest-newest : (m n : ℕ) (bars : List A) → n ≤ m → newest n (newest m bars) ≡ newest n bars
-  newest-newest m n bars le = simp append-nil at (newest-append m n bars [] (omega arith))
-
 -- ---- the places
 
 -- there are as many places as before

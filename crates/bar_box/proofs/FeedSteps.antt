@@ -19,12 +19,12 @@ use Rattle.recognisers.specs.declared.call.Verdict.the-variants.{Accepted, Deni
 use Rattle.recognisers.specs.Number.{rowBytes, mostBars, places}
 use Rattle.recognisers.specs.Refusal.{Tried, firstTrue}
 use Rattle.bar_box.specs.declared.boxes.BarBox.{BarBox}
-use Rattle.bar_box.specs.Sheet.{before, rowsOf, overlay}
+use Rattle.bar_box.specs.Sheet.{rowsOf, overlay}
 use Rattle.bar_box.specs.Box.{kept, takenIn, feedVerdict, leaves, fedOf, sheetOf}
 use Rattle.bar_box.specs.History.{Feed, verdictOn, appended, fed, rowsIn, NoBars}
 use Rattle.bar_box.proofs.Overlay.{overlay-none}
-use Rattle.bar_box.proofs.SheetLaws.{length-rows, rows-near}
-use Rattle.bar_box.proofs.BoxLaws.{newest-newest, kept-taken, taken-append, taken-none}
+use Rattle.bar_box.proofs.SheetLaws.{length-rows, rows-newest}
+use Rattle.bar_box.proofs.BoxLaws.{kept-taken, taken-append, taken-none}
 
 -- ---- what an accepted feed meets
 
@@ -129,5 +129,5 @@ module _ (b : BarBox) (start : NoBars b) where
   rows-step h f =
       let bars = barsOf (f .prices) in
       let t = b .thresholds in
-      rw (kept-after h, count-after h, rows-near t (length h) (newest places h) h bars (newest-newest places before h (omega arith)))
+      rw (kept-after h, count-after h, rows-newest places (omega arith) t (length h) h bars)
       (written (verdictOn t h f) (f .sheet) (rowsOf t (length h) h bars) (rowBytes * length bars) (length-rows t (length h) h bars))

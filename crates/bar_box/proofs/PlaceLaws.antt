@@ -27,29 +27,13 @@ withCount b n = record { thresholds = b .thresholds; count = n; bars = b .bars }
 abbrev pub withBars : BarBox → List KeptBar → BarBox
 withBars b bars = record { thresholds = b .thresholds; count = b .count; bars = bars }
 
--- where the first loop has a bar to move, bars move by one place, and that bar stays
-pub by-one-moves : (gone stay near j : ℕ) → near ≡ cond (eqb gone 1) stay 0 → j < near → (gone ≡ 1) × (j < stay)
-by-one-moves gone stay near j is lt = go (eqb gone 1) refl (rw is at lt)
+-- the first loop moves no others than the bars that stay, leaves a place ahead of them, and moves some only if they move by one place
+pub by-one : (gone stay near : ℕ) → near ≡ cond (eqb gone 1) stay 0 → (near ≤ stay) × (near ≤ stay + gone - 1) × ((j : ℕ) → j < near → gone ≡ 1)
+by-one gone stay near is = go (eqb gone 1) refl is
   where
-    go : (t : Bool) → eqb gone 1 ≡ t → j < cond t stay 0 → (gone ≡ 1) × (j < stay)
-    go true e lt = (eqb-true gone 1 e, lt)
-    go false e lt = absurd (let z : ⊥ = omega arith in z)
-
--- it moves no others
-pub by-one-few : (gone stay near : ℕ) → near ≡ cond (eqb gone 1) stay 0 → near ≤ stay
-by-one-few gone stay near is = go (eqb gone 1) is
-  where
-    go : (t : Bool) → near ≡ cond t stay 0 → near ≤ stay
-    go true e = omega arith
-    go false e = omega arith
-
--- and one place is left ahead of those that it moves
-pub by-one-room : (gone stay near m : ℕ) → near ≡ cond (eqb gone 1) stay 0 → gone + stay ≤ m + 1 → near ≤ m
-by-one-room gone stay near m is room = go (eqb gone 1) refl is
-  where
-    go : (t : Bool) → eqb gone 1 ≡ t → near ≡ cond t stay 0 → near ≤ m
-    go true e is = omega (arith, eqb-true gone 1 e)
-    go false e is = omega arith
+    go : (t : Bool) → eqb gone 1 ≡ t → near ≡ cond t stay 0 → (near ≤ stay) × (near ≤ stay + gone - 1) × ((j : ℕ) → j < near → gone ≡ 1)
+    go true e is = let one = eqb-true gone 1 e in (omega arith, omega (arith, one), λ j lt. one)
+    go false e is = (omega arith, omega arith, λ j lt. absurd (let z : ⊥ = omega arith in z))
 
 module _ {A : Type 0} where
   -- the elements from a place on, before another, are those that stood some places further

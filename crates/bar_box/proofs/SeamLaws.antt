@@ -21,9 +21,9 @@ use Rattle.bar_box.specs.Box.{barsIn, kept, laid}
 use Rattle.bar_box.specs.History.{pricesOf}
 use Rattle.bar_box.proofs.Overlay.{overlay-more}
 use Rattle.bar_box.proofs.PriceLaws.{length-prices}
-use Rattle.bar_box.proofs.SheetLaws.{length-rows, rows-append, rows-near}
+use Rattle.bar_box.proofs.SheetLaws.{length-rows, rows-append, rows-near, rows-newest}
 use Rattle.bar_box.proofs.OrdinalLaws.{map-take}
-use Rattle.bar_box.proofs.BoxLaws.{take-same, drop-same, newest-newest}
+use Rattle.bar_box.proofs.BoxLaws.{take-same, drop-same}
 
 -- ---- a run of prices that begins with the prices of bars
 
@@ -121,10 +121,6 @@ newest-behind h bars enough =
     let at : length (h ++ bars) - before ≡ length h + (length bars - before) = rw length-append (omega arith) in
     rw (at, drop-append-add h bars (length bars - before))
 
--- rows over the newest 21 bars of a history are rows over the history
-pub rows-newest : (t : Thresholds) (count : ℕ) (h new : List Bar) → rowsOf t count (newest before h) new ≡ rowsOf t count h new
-rows-newest t count h new = rows-near t count (newest before h) h new (newest-newest before before h (omega arith))
-
 -- the rows over the run, as a feed fills it, are those over the kept bars
 pub run-rows : (s run : List Float) (b : BarBox) → length (b .bars) ≡ places → (held n : ℕ) (new : List Bar) → held ≡ min (b .count) places → n ≡ min held before
     → run ≡ overlay s 0 (pricesOf (take n (drop (held - n) (barsIn (b .bars)))))
@@ -132,7 +128,7 @@ pub run-rows : (s run : List Float) (b : BarBox) → length (b .bars) ≡ places
 run-rows s run b all held n new held-is n-is run-is =
     let f : KeptBar → Bar = λ r. r .bar in
     let size : length (barsIn (b .bars)) ≡ places = length-map (b .bars) f ∙ all in
-    rw (run-bars s run (barsIn (b .bars)) (b .count) held n size held-is n-is run-is, ← map-take f (b .count) (b .bars)) (rows-newest (b .thresholds) (b .count) (kept b) new)
+    rw (run-bars s run (barsIn (b .bars)) (b .count) held n size held-is n-is run-is, ← map-take f (b .count) (b .bars)) (rows-newest before (omega arith) (b .thresholds) (b .count) (kept b) new)
 
 -- the rows of the first lent bars over a history, then those of the others over the lent bars alone, are the rows of all of them
 feed-rows : (t : Thresholds) (count : ℕ) (h new : List Bar) (m : ℕ) → m ≡ min (length new) before

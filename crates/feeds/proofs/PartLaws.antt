@@ -9,22 +9,22 @@ use lib.ListN.{length, take, drop, length-take, length-drop, drop-of-length-le}
 use lib.Seq.{take-all, take-add, length-take-le, drop-drop}
 use lib.Ieee.{Float}
 use Rattle.measures.specs.Bar.{Bar, barsOf}
-use Rattle.measures.specs.Window.{upTo, newest}
+use Rattle.measures.specs.Window.{upTo}
 use Rattle.measures.proofs.RunLaws.{length-bars, bars-drop, bars-take}
 use Rattle.recognisers.specs.Threshold.{Thresholds}
 use Rattle.recognisers.specs.declared.call.Verdict.{Verdict}
 use Rattle.recognisers.specs.declared.call.Verdict.the-variants.{Accepted, Denied}
 use Rattle.recognisers.specs.declared.call.Answer.{Answer}
 use Rattle.recognisers.specs.declared.call.Answer.the-variants.{Labels, Refused}
+use Rattle.recognisers.specs.declared.call.LookAnswer.{LookAnswer}
 use Rattle.recognisers.specs.Number.{places}
 use Rattle.recognisers.specs.Refusal.{firstTrue, answerTo, answerIn}
 use Rattle.recognisers.specs.Export.{resultOf}
 use Rattle.bar_box.specs.declared.boxes.BarBox.{BarBox}
-use Rattle.recognisers.specs.declared.call.LookAnswer.{LookAnswer}
-use Rattle.bar_box.specs.Sheet.{before, rowsOf, overlay}
+use Rattle.bar_box.specs.Sheet.{rowsOf, overlay}
 use Rattle.bar_box.specs.Box.{freshBox, madeOf, kept, takenIn, feedVerdict, fedOf, sheetOf, lookOf, withOrdinal, lookAnswerOf}
-use Rattle.bar_box.proofs.SheetLaws.{length-rows, rows-append, rows-near}
-use Rattle.bar_box.proofs.BoxLaws.{newest-newest, kept-taken, taken-append}
+use Rattle.bar_box.proofs.SheetLaws.{length-rows, rows-append, rows-newest}
+use Rattle.bar_box.proofs.BoxLaws.{kept-taken, taken-append}
 use Rattle.bar_box.proofs.FeedSteps.{fits, accepts}
 use Rattle.bar_box.proofs.Overlay.{overlay-more}
 use Rattle.feeds.specs.Result.{oneFed, lookResult, lookTo, lookAfter}
@@ -128,7 +128,7 @@ module _ (b : BarBox) (all : length (b .bars) ≡ places) (bars : List Bar) (pas
       let new-are : length ys ≡ n = length-take-le n (drop passed bars) (rw length-drop (omega arith)) in
       let first = length-rows t (b .count) (kept b) xs in
       let second = length-rows t (b .count + length xs) h ys in
-      rw (kept-taken b all xs, rows-near t (b .count + length xs) (newest places h) h ys (newest-newest places before h (omega arith)))
+      rw (kept-taken b all xs, rows-newest places (omega arith) t (b .count + length xs) h ys)
       (overlay-more s 0 (rowsOf t (b .count) (kept b) xs) (rowsOf t (b .count + length xs) h ys) (36 * passed) (omega arith) (omega arith)
       ∙ rw (take-add passed n bars, rows-append t (b .count) (kept b) xs ys))
 

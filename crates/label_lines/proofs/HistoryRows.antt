@@ -8,18 +8,16 @@ use borrow.Author.Tests.{ltb-true, ltb-false, lt-ltb}
 use lib.Dec.{ltb}
 use lib.ListN.{length, replicate, length-append}
 use Rattle.measures.specs.Bar.{Bar, barsOf}
-use Rattle.measures.specs.Window.{newest}
 use Rattle.recognisers.specs.declared.call.Refusal.the-variants as refusal
 use Rattle.recognisers.specs.declared.call.Verdict.the-variants.{Accepted, Denied}
 use Rattle.recognisers.specs.Number.{rowBytes, mostBars, places}
 use Rattle.recognisers.specs.Refusal.{firstTrue}
 use Rattle.recognisers.specs.Threshold.{standardSet}
 use Rattle.bar_box.specs.declared.boxes.BarBox.{BarBox}
-use Rattle.bar_box.specs.Sheet.{before, rowOf}
+use Rattle.bar_box.specs.Sheet.{rowOf}
 use Rattle.bar_box.specs.Box.{freshBox, takenIn, feedVerdict, fedOf, sheetOf}
 use Rattle.bar_box.specs.History.{Feed, verdictOn, pricesOf, NoBars}
-use Rattle.bar_box.proofs.SheetLaws.{length-row, rows-one, rows-near}
-use Rattle.bar_box.proofs.BoxLaws.{newest-newest}
+use Rattle.bar_box.proofs.SheetLaws.{length-row, rows-one, rows-newest}
 use Rattle.bar_box.proofs.FeedSteps.{accepts, count-after, kept-after, verdict-step, box-step}
 use Rattle.bar_box.proofs.FeedLists.{at-start}
 use Rattle.bar_box.proofs.Demand3.{standard-valid, fresh-none}
@@ -70,7 +68,7 @@ module _ (h : List Bar) (bar : Bar) where
     row : sheetOf (boxOf h) (pricesOf (bar ∷ [])) (replicate rowBytes 0) ≡ rowOf standardSet (length h + 1) more
     unfolding sheetOf barsOf pricesOf
     row =
-        let near = rows-near standardSet (length h) (newest places h) h (bar ∷ []) (newest-newest places before h (omega arith)) in
+        let near = rows-newest places (omega arith) standardSet (length h) h (bar ∷ []) in
         rw (kept-after fresh start h, count-after fresh start h, accepted, near, rows-one standardSet (length h) h bar, length-row standardSet (length h + 1) more)
         (append-nil (rowOf standardSet (length h + 1) more))
 

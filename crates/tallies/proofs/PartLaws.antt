@@ -6,13 +6,12 @@ use mathlib.Core.Path.{_≡_, ap, sym, _∙_}
 use native.Mathlib.Omega.{arith}
 use lib.ListN.{length}
 use Rattle.measures.specs.Bar.{Bar}
-use Rattle.measures.specs.Window.{newest}
 use Rattle.recognisers.specs.Number.{rowBytes, places}
 use Rattle.bar_box.specs.declared.boxes.BarBox.{BarBox}
-use Rattle.bar_box.specs.Sheet.{before, rowsOf}
+use Rattle.bar_box.specs.Sheet.{rowsOf}
 use Rattle.bar_box.specs.Box.{kept, takenIn}
-use Rattle.bar_box.proofs.SheetLaws.{length-rows, rows-append, rows-near}
-use Rattle.bar_box.proofs.BoxLaws.{newest-newest, kept-taken}
+use Rattle.bar_box.proofs.SheetLaws.{length-rows, rows-append, rows-newest}
+use Rattle.bar_box.proofs.BoxLaws.{kept-taken}
 use Rattle.tallies.specs.declared.table.TallyRow.{TallyRow}
 use Rattle.tallies.specs.Tally.{Shaped, addsUp, counted}
 use Rattle.tallies.proofs.RowLaws.{rows-known, counted-adds, counted-append}
@@ -27,7 +26,7 @@ module _ (b : BarBox) (all : length (b .bars) ≡ places) where
   rows-parts xs ys =
       let t = b .thresholds in
       let h = kept b ++ xs in
-      rw (kept-taken b all xs, rows-near t (b .count + length xs) (newest places h) h ys (newest-newest places before h (omega arith))) (rows-append t (b .count) (kept b) xs ys)
+      rw (kept-taken b all xs, rows-newest places (omega arith) t (b .count + length xs) h ys) (rows-append t (b .count) (kept b) xs ys)
 
   module _ (tally : List TallyRow) (shaped : Shaped tally) where
     -- after the first part the tally adds up to the bars

@@ -14,7 +14,7 @@ use Rattle.bar_box.proofs.PriceLaws.{overlay-bar}
 use Rattle.bar_box.specs.declared.boxes.BarBox.{BarBox}
 use Rattle.bar_box.proofs.OrdinalLaws.{noKept, bar-at, length-numbered, numbered-from}
 use Rattle.bar_box.proofs.SeamLaws.{run-rows}
-use Rattle.bar_box.proofs.PlaceLaws.{withBars, by-one-moves, by-one-few, by-one-room, shifted, shifted-start, shifted-next, places-taken}
+use Rattle.bar_box.proofs.PlaceLaws.{withBars, by-one, shifted, shifted-start, shifted-next, places-taken}
 use Rattle.bar_box.proofs.feeds.take_in.Statement.{statement}
 use Rattle.bar_box.proofs.feeds.take_in.Tie as tie
 
@@ -173,8 +173,8 @@ loop2-holds c =
     let start = first .before .before .before .before in
     let full : length (start .args .b .bars) ≡ 64 = simp length-map at (start .good .0 .1 .1 .1 .1 .0 .1 .0 .1) in
     let stay = four .least4 .result in
-    let room = by-one-room (first .least .result - stay) stay (c .by-one .result) 63 (c .by-one .ensures) (omega (arith, first .least .ensures, four .least4 .ensures)) in
-    (search needs, room, full, refl)
+    let moved = by-one (first .least .result - stay) stay (c .by-one .result) (c .by-one .ensures) in
+    (search needs, omega (arith, moved .1, first .least .ensures, four .least4 .ensures), full, refl)
 
 add-next : tie.Need-add-next Inv-loop μ-loop Inv-loop2 μ-loop2 Inv-loop3 μ-loop3 Inv-loop4 μ-loop4
 add-next c = search needs
@@ -235,9 +235,10 @@ loop2-again c =
     let j = lp .loop2 .j in
     let inv = lp .loop2 .inv in
     let full : length (b .bars) ≡ 64 = simp length-map at (start .good .0 .1 .1 .1 .1 .0 .1 .0 .1) in
-    let moves = by-one-moves gone (four .least4 .result) (one .by-one .result) j (one .by-one .ensures) (c .before .loop2-test .taken) in
-    let there : j + gone < length (b .bars) = omega (arith, moves .0, moves .1, four .least4 .ensures, three .least3 .ensures, first .least .ensures, full) in
-    (search needs, search needs, simp length-set (inv .2), ap (λ (x : BarBox). withBars x (set (x .bars) j (getD (x .bars) (j + 1) noKept))) (inv .3) ∙ ap (withBars b) (shifted-next (b .bars) 0 gone j (j + 1) noKept (omega (arith, moves .0)) (omega arith) there))
+    let moved = by-one gone (four .least4 .result) (one .by-one .result) (one .by-one .ensures) in
+    let by = moved .2 j (c .before .loop2-test .taken) in
+    let there : j + gone < length (b .bars) = omega (arith, by, moved .0, c .before .loop2-test .taken, four .least4 .ensures, three .least3 .ensures, first .least .ensures, full) in
+    (search needs, search needs, simp length-set (inv .2), ap (λ (x : BarBox). withBars x (set (x .bars) j (getD (x .bars) (j + 1) noKept))) (inv .3) ∙ ap (withBars b) (shifted-next (b .bars) 0 gone j (j + 1) noKept (omega (arith, by)) (omega arith) there))
 
 loop3-holds :
     tie.Need-loop3-holds Inv-loop μ-loop Inv-loop2 μ-loop2 Inv-loop3 μ-loop3 Inv-loop4 μ-loop4
@@ -254,8 +255,8 @@ loop3-holds c =
     let after = lp .loop2 .after in
     let inv = lp .loop2 .inv in
     let gone = first .least .result - four .least4 .result in
-    let few = by-one-few gone (four .least4 .result) (one .by-one .result) (one .by-one .ensures) in
-    (omega (arith, few, inv .0), omega arith, inv .2, ap (withBars after) (sym (shifted-start (after .bars) (lp .loop2 .j) gone)))
+    let moved = by-one gone (four .least4 .result) (one .by-one .result) (one .by-one .ensures) in
+    (omega (arith, moved .0, inv .0), omega arith, inv .2, ap (withBars after) (sym (shifted-start (after .bars) (lp .loop2 .j) gone)))
 
 add-next-2 :
     tie.Need-add-next-2 Inv-loop μ-loop Inv-loop2 μ-loop2 Inv-loop3 μ-loop3 Inv-loop4 μ-loop4
@@ -440,7 +441,7 @@ returns c =
     let filled : left .before .loop .i ≡ two .least2 .result = omega (arith, left .loop-test .left, left .before .loop .inv .0) in
     let bars = barsOf (start .args .prices .now) in
     let n-is = counted .count .ensures in (
-      places-taken b full bars (first .least .result) (counted .count .result) new stay (lp .loop2 .j) (lp .loop2 .after) (lp3 .loop3 .after) (lp4 .loop4 .after) (first .least .ensures) n-is (three .least3 .ensures) (four .least4 .ensures) (omega (arith, by-one-few (first .least .result - stay) stay (one .by-one .result) (one .by-one .ensures), lp .loop2 .inv .0)) (lp .loop2 .inv .3) (rw last at (lp3 .loop3 .inv .3)) (rw all at (lp4 .loop4 .inv .2)),
+      places-taken b full bars (first .least .result) (counted .count .result) new stay (lp .loop2 .j) (lp .loop2 .after) (lp3 .loop3 .after) (lp4 .loop4 .after) (first .least .ensures) n-is (three .least3 .ensures) (four .least4 .ensures) (omega (arith, by-one (first .least .result - stay) stay (one .by-one .result) (one .by-one .ensures) .0, lp .loop2 .inv .0)) (lp .loop2 .inv .3) (rw last at (lp3 .loop3 .inv .3)) (rw all at (lp4 .loop4 .inv .2)),
       labelled .label .ensures ∙ rw (run-rows _ (left .before .loop .run) b full (first .least .result) (two .least2 .result) bars (first .least .ensures) (two .least2 .ensures) (rw filled at (left .before .loop .inv .2))),
     )
 
