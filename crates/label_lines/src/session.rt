@@ -97,7 +97,7 @@ fn feed_bar(held: BarBox, bar: Bar, out: &mut [u8], at: usize) -> Stepped
     let mut sheet = [0u8; 36];
     let fed = bar_box::feed(held, &prices, &mut sheet);
     let verdict = fed.verdict;
-    // a refused feed leaves the box, which is not copied for it
+    // a refused feed leaves the box as it was, so that no second one is kept for it
     let after = fed.after;
     match verdict {
         Verdict::Denied(why) => refuse(after, why, out, at),
