@@ -1,12 +1,11 @@
 -- A feed of a part of the prices on its part of the sheet, and feeds of parts one after the other. Assumes nothing.
 use Prim.Native.Nat.{ℕ, _+_, _-_, _*_, _≤_}
-use mathlib.Core.Path.{_≡_, refl, ap, _∙_}
-use mathlib.Core.List.{List, _++_, append-assoc, append-nil}
+use mathlib.Core.Path.{_≡_, refl, ap, sym, _∙_}
+use mathlib.Core.List.{List}
 use native.Mathlib.Omega.{arith}
-use native.Mathlib.Nat.{zero-add}
 use borrow.Rule.Slice.PartMut.{putMid}
-use lib.ListN.{length, take, drop, length-take, length-drop, drop-of-length-le}
-use lib.Seq.{take-all, take-add, length-take-le, drop-drop}
+use lib.ListN.{length, take, drop, length-take, length-drop}
+use lib.Seq.{take-add, length-take-le}
 use lib.Ieee.{Float}
 use Rattle.measures.specs.Bar.{Bar, barsOf}
 use Rattle.measures.specs.Window.{upTo}
@@ -18,15 +17,14 @@ use Rattle.recognisers.specs.declared.call.Answer.{Answer}
 use Rattle.recognisers.specs.declared.call.Answer.the-variants.{Labels, Refused}
 use Rattle.recognisers.specs.declared.call.LookAnswer.{LookAnswer}
 use Rattle.recognisers.specs.Number.{places}
-use Rattle.recognisers.specs.Refusal.{firstTrue, answerTo, answerIn}
+use Rattle.recognisers.specs.Refusal.{answerTo, answerIn}
 use Rattle.recognisers.specs.Export.{resultOf}
 use Rattle.bar_box.specs.declared.boxes.BarBox.{BarBox}
 use Rattle.bar_box.specs.Sheet.{rowsOf, overlay}
 use Rattle.bar_box.specs.Box.{freshBox, madeOf, kept, takenIn, feedVerdict, fedOf, sheetOf, lookOf, withOrdinal, lookAnswerOf}
-use Rattle.bar_box.proofs.SheetLaws.{length-rows, rows-append, rows-newest}
-use Rattle.bar_box.proofs.BoxLaws.{kept-taken, taken-append}
+use Rattle.bar_box.proofs.BoxLaws.{taken-append}
 use Rattle.bar_box.proofs.FeedSteps.{fits, accepts}
-use Rattle.bar_box.proofs.Overlay.{overlay-more}
+use Rattle.bar_box.proofs.PartLaws.{restOf, length-rest, overlay-rest, fed-box, fed-sheet, made-valid, rows-both}
 use Rattle.feeds.specs.Result.{oneFed, lookResult, lookTo, lookAfter}
 
 -- ---- a part of the prices and of the sheet
@@ -47,40 +45,6 @@ length-part : (ps : List Float) (from n : ℕ) → from + n ≤ length (barsOf p
 length-part ps from n h =
     let total = length-bars ps in
     rw (length-take, length-drop) (omega arith)
-
--- the bytes of a sheet from a byte on
-abbrev pub restOf : List ℕ → ℕ → List ℕ
-restOf s at = take (length s - at) (drop at s)
-
--- how many bytes
-length-rest : (s : List ℕ) (at : ℕ) → length (restOf s at) ≡ length s - at
-length-rest s at = rw (length-take, length-drop) (omega arith)
-
--- bytes written over the front of those are written over the whole from there on
-overlay-rest : (s : List ℕ) (at : ℕ) (xs : List ℕ) → putMid at (length s - at) s (overlay (restOf s at) 0 xs) ≡ overlay s at xs
-overlay-rest s at xs =
-    let left : length (drop at s) ≡ length s - at = length-drop at s in
-    rw (
-      take-all (length s - at) (drop at s) (omega arith),
-      drop-of-length-le (drop at s) {i = length s - at} (omega arith),
-      append-nil (xs ++ drop (0 + length xs) (drop at s)),
-      zero-add,
-      drop-drop (length xs) at s,
-      append-assoc (take at s) xs,
-    )
-
--- ---- what an accepted feed leaves
-
-module _ (b : BarBox) (ps : List Float) (sheet : List ℕ) (e : feedVerdict (b .thresholds) (b .count) (length ps) (length sheet) ≡ Accepted) where
-  -- the box with the bars taken in
-  fed-box : fedOf b ps (length sheet) .after ≡ takenIn b (barsOf ps)
-  unfolding fedOf
-  fed-box = simp e
-
-  -- the sheet with their rows
-  fed-sheet : sheetOf b ps sheet ≡ overlay sheet 0 (rowsOf (b .thresholds) (b .count) (kept b) (barsOf ps))
-  unfolding sheetOf
-  fed-sheet = simp e
 
 -- ---- one feed of a part
 
@@ -120,17 +84,9 @@ module _ (b : BarBox) (all : length (b .bars) ≡ places) (bars : List Bar) (pas
       → overlay (overlay s 0 (rowsOf (b .thresholds) (b .count) (kept b) (take passed bars))) (36 * passed) (rowsOf (after .thresholds) (after .count) (kept after) (take n (drop passed bars)))
       ≡ overlay s 0 (rowsOf (b .thresholds) (b .count) (kept b) (take (passed + n) bars))
   rows-more s enough room =
-      let t = b .thresholds in
-      let xs = take passed bars in
-      let ys = take n (drop passed bars) in
-      let h = kept b ++ xs in
-      let passed-are : length xs ≡ passed = length-take-le passed bars (omega arith) in
-      let new-are : length ys ≡ n = length-take-le n (drop passed bars) (rw length-drop (omega arith)) in
-      let first = length-rows t (b .count) (kept b) xs in
-      let second = length-rows t (b .count + length xs) h ys in
-      rw (kept-taken b all xs, rows-newest places (omega arith) t (b .count + length xs) h ys)
-      (overlay-more s 0 (rowsOf t (b .count) (kept b) xs) (rowsOf t (b .count + length xs) h ys) (36 * passed) (omega arith) (omega arith)
-      ∙ rw (take-add passed n bars, rows-append t (b .count) (kept b) xs ys))
+      let passed-are : length (take passed bars) ≡ passed = length-take-le passed bars (omega arith) in
+      let new-are : length (take n (drop passed bars)) ≡ n = length-take-le n (drop passed bars) (rw length-drop (omega arith)) in
+      rows-both b all (take passed bars) (take n (drop passed bars)) s passed (sym passed-are) (omega arith) ∙ rw (take-add passed n bars)
 
 -- ---- a part of an accepted feed
 
@@ -151,8 +107,7 @@ module _ (b : BarBox) (ps : List Float) (sheet passed n : ℕ) (e : feedVerdict 
 
 -- where a feed is accepted, making with the same thresholds gives a fresh box with them
 pub made-fresh : (t : Thresholds) (n prices sheet : ℕ) → feedVerdict t n prices sheet ≡ Accepted → madeOf t .after ≡ freshBox t
-unfolding madeOf firstTrue
-made-fresh t n prices sheet e = simp (fits t n prices sheet e .valid)
+made-fresh t n prices sheet e = made-valid t (fits t n prices sheet e .valid)
 
 -- ---- the look after the feeds
 

@@ -8,7 +8,7 @@ use lib.Ieee.{Float}
 use Rattle.measures.specs.Bar.{Bar, barsOf}
 use Rattle.rule_table.specs.declared.thresholds.Thresholds.{Thresholds}
 use Rattle.recognisers.specs.declared.call.Refusal.{Refusal}
-use Rattle.recognisers.specs.declared.call.Refusal.the-variants.{UnknownRecogniser, ZeroOffset, BadThreshold, BrokenBars, TooManyBars, ShortSheet, FarLook, BadShape, BadPrice}
+use Rattle.recognisers.specs.declared.call.Refusal.the-variants.{UnknownRecogniser, ZeroOffset, BadThreshold, BrokenBars, TooManyBars, ShortSheet, FarLook, BadShape, BadPrice, LateStamp, OutsideHours, BadLayer}
 use Rattle.recognisers.specs.declared.call.Verdict.{Verdict}
 use Rattle.recognisers.specs.declared.call.Verdict.the-variants.{Accepted, Denied}
 use Rattle.recognisers.specs.declared.call.Answer.{Answer}
@@ -31,6 +31,9 @@ refusalNumber ShortSheet = 6
 refusalNumber FarLook = 7
 refusalNumber BadShape = 8
 refusalNumber BadPrice = 9
+refusalNumber LateStamp = 10
+refusalNumber OutsideHours = 11
+refusalNumber BadLayer = 12
 
 -- ---- when each is true
 
@@ -78,8 +81,21 @@ badShape bytes fields = tried (ltb longestLine bytes || not (eqb fields 4)) BadS
 abbrev pub badPrice : ℕ → ℕ → Bool → Tried
 badPrice bytes fields allPrices = tried (leb bytes longestLine && eqb fields 4 && not allPrices) BadPrice
 
+-- 10. A stamp is not above the one before it, in this call or an earlier one.
+abbrev pub lateStamp : Bool → Tried
+lateStamp above = tried (not above) LateStamp
+
+-- 11. A stamp lies outside all windows.
+abbrev pub outsideHours : Bool → Tried
+outsideHours inside = tried (not inside) OutsideHours
+
+-- 12. Of a layer, the hours, the term length or a kept stamp break the rules, or an open term bar has no stamp.
+abbrev pub badLayer : Bool → Tried
+badLayer valid = tried (not valid) BadLayer
+
 -- each call tries those that concern it, in this order, gives the first that is true and none otherwise: a plain call 1 to 5, box-making 3, a feed
--- 3 to 6, a look 1 to 3, 5 and 7, a text line 8 and 9
+-- 3 to 6, a look 1 to 3, 5 and 7, a text line 8 and 9, the making of a layer 3 and 12, a run 3, 12, 4 to 6, and 10 and 11 bar by bar, a close 3, 12,
+-- 5 and 6
 unfoldable pub firstTrue : List Tried → Verdict
 firstTrue [] = Accepted
 firstTrue (x ∷ xs) = cond (x .met) (Denied (x .why)) (firstTrue xs)

@@ -6,7 +6,7 @@ use rule_table::thresholds::Thresholds;
 use rule_types::counts;
 use rule_types::label::Pair;
 
-// Why a call is refused, in the order in which it is tried.
+// Why a call is refused, by number. Most calls try theirs in this order; a layer's 12 comes next after 3.
 pub enum Refusal {
     UnknownRecogniser,
     ZeroOffset,
@@ -17,6 +17,9 @@ pub enum Refusal {
     FarLook,
     BadShape,
     BadPrice,
+    LateStamp,
+    OutsideHours,
+    BadLayer,
 }
 
 // Whether a call is refused.
@@ -71,6 +74,9 @@ pub fn refusal_number(r: Refusal) -> u8
         Refusal::FarLook => 7,
         Refusal::BadShape => 8,
         Refusal::BadPrice => 9,
+        Refusal::LateStamp => 10,
+        Refusal::OutsideHours => 11,
+        Refusal::BadLayer => 12,
     }
 }
 

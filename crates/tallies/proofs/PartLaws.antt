@@ -8,26 +8,15 @@ use lib.ListN.{length}
 use Rattle.measures.specs.Bar.{Bar}
 use Rattle.recognisers.specs.Number.{rowBytes, places}
 use Rattle.bar_box.specs.declared.boxes.BarBox.{BarBox}
-use Rattle.bar_box.specs.Sheet.{rowsOf}
 use Rattle.bar_box.specs.Box.{kept, takenIn}
-use Rattle.bar_box.proofs.SheetLaws.{length-rows, rows-append, rows-newest}
-use Rattle.bar_box.proofs.BoxLaws.{kept-taken}
+use Rattle.bar_box.proofs.SheetLaws.{length-rows}
+pub use Rattle.bar_box.proofs.PartLaws.{rowsFrom}
+use Rattle.bar_box.proofs.PartLaws.{rows-parts}
 use Rattle.tallies.specs.declared.table.TallyRow.{TallyRow}
 use Rattle.tallies.specs.Tally.{Shaped, addsUp, counted}
 use Rattle.tallies.proofs.RowLaws.{rows-known, counted-adds, counted-append}
 
--- the rows of bars that a box takes in
-abbrev pub rowsFrom : BarBox → List Bar → List ℕ
-rowsFrom b bars = rowsOf (b .thresholds) (b .count) (kept b) bars
-
 module _ (b : BarBox) (all : length (b .bars) ≡ places) where
-  -- the rows of both parts are those of the first, and then those of the second after it
-  pub rows-parts : (xs ys : List Bar) → rowsFrom b (xs ++ ys) ≡ rowsFrom b xs ++ rowsFrom (takenIn b xs) ys
-  rows-parts xs ys =
-      let t = b .thresholds in
-      let h = kept b ++ xs in
-      rw (kept-taken b all xs, rows-newest places (omega arith) t (b .count + length xs) h ys) (rows-append t (b .count) (kept b) xs ys)
-
   module _ (tally : List TallyRow) (shaped : Shaped tally) where
     -- after the first part the tally adds up to the bars
     pub parts-add : (xs : List Bar) → addsUp (b .count) tally ≡ true → addsUp (takenIn b xs .count) (counted (rowsFrom b xs) tally) ≡ true
@@ -40,4 +29,4 @@ module _ (b : BarBox) (all : length (b .bars) ≡ places) where
     pub parts-counted : (xs ys : List Bar) → counted (rowsFrom (takenIn b xs) ys) (counted (rowsFrom b xs) tally) ≡ counted (rowsFrom b (xs ++ ys)) tally
     parts-counted xs ys =
         counted-append tally shaped (rowsFrom b xs) (rowsFrom (takenIn b xs) ys) (length xs) (length-rows (b .thresholds) (b .count) (kept b) xs)
-        ∙ ap (λ (rows : List ℕ). counted rows tally) (sym (rows-parts xs ys))
+        ∙ ap (λ (rows : List ℕ). counted rows tally) (sym (rows-parts b all xs ys))

@@ -15,7 +15,8 @@ use Rattle.bar_box.specs.declared.boxes.BarBox.{BarBox}
 use Rattle.bar_box.specs.Sheet.{overlay}
 use Rattle.bar_box.specs.Box.{freshBox, takenIn, feedVerdict, sheetOf}
 use Rattle.bar_box.specs.History.{Feed}
-use Rattle.feeds.proofs.PartLaws.{partOf, restOf, part-bars, part-accepted, part-sheet, next-accepted}
+use Rattle.bar_box.proofs.PartLaws.{restOf}
+use Rattle.feeds.proofs.PartLaws.{partOf, part-bars, part-accepted, part-sheet, next-accepted}
 use Rattle.tallies.specs.declared.table.TallyRow.{TallyRow}
 use Rattle.tallies.specs.declared.feeds.Tallied.{Tallied}
 use Rattle.tallies.specs.Tally.{Shaped, counted}

@@ -1,0 +1,2 @@
+-- What the export over lists of calls answers.
+pub mod Calls

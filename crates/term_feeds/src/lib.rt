@@ -1,0 +1,130 @@
+// An export for the benchmark and the comparison: a layer of terms is made, and runs and closes are made one after the other. All is
+// proved, nothing is assumed, and the public function has no `requires`.
+mod numbers;
+
+ghost use mathlib.Core.Path.{_≡_};
+ghost use mathlib.Core.List.{_++_};
+ghost use Prim.Native.Nat.{_+_, _*_, _≤_};
+ghost use lib.ListN.{length, take, drop};
+ghost use Rattle.bar_box.specs.Sheet.{overlay};
+ghost use Rattle.recognisers.specs.Threshold.{thresholdsOf};
+ghost use Rattle.terms.specs.History.{called, sheetAfter};
+ghost use Rattle.term_feeds.specs.Calls.{callOf, answersOf, sheetOf, verdictNumber, madeIn, sheetIn, answersIn};
+use measures::least;
+use recognisers::Thresholds;
+use recognisers::call::Verdict;
+use recognisers::call::refusal_number;
+use recognisers::counts::ROW_BYTES;
+use terms::Layer;
+use terms::Taken;
+
+// One call of a size, lent the prices from p on, the stamps from s on and the sheet from a byte on.
+fn make_call(
+    l: Layer,
+    size: u32,
+    prices: &[f64],
+    p: usize,
+    stamps: &[u32],
+    s: usize,
+    sheet: &mut [u8],
+    at: usize,
+) -> Taken
+    requires { ⌜ (p ≤ length (now prices)) × (s ≤ length (now stamps)) × (at ≤ length (now sheet)) ⌝ }
+    ensures { λ r. ⌜ (r ≡ called l (callOf size (drop p (now (prices .entry))) (drop s (now (stamps .entry))) (drop at (now (sheet .entry)))))
+        × (now (sheet .exit) ≡ take at (now (sheet .entry)) ++ sheetAfter l (callOf size (drop p (now (prices .entry))) (drop s (now (stamps .entry))) (drop at (now (sheet .entry))))) ⌝ }
+{
+    if size == 0 {
+        return terms::close(l, &mut sheet[at..]);
+    }
+    let n = size as usize;
+    let p_end = least(p + 4 * n, prices.len());
+    let s_end = least(s + n, stamps.len());
+    terms::run(l, &prices[p..p_end], &stamps[s..s_end], &mut sheet[at..])
+}
+
+// Calls of these sizes, one after the other; each answer goes to its place, if there is one.
+fn make_calls(
+    l: Layer,
+    sizes: &[u32],
+    prices: &[f64],
+    stamps: &[u32],
+    sheet: &mut [u8],
+    answers: &mut [u32],
+)
+    ensures { λ _. ⌜ (now (sheet .exit) ≡ sheetOf l (now (prices .entry)) (now (stamps .entry)) (now (sheet .entry)) (now (sizes .entry)))
+        × (now (answers .exit) ≡ overlay (now (answers .entry)) 0 (take (length (now (answers .entry))) (answersOf l (now (prices .entry)) (now (stamps .entry)) (now (sheet .entry)) (now (sizes .entry))))) ⌝ }
+{
+    let mut layer = l;
+    let mut p = 0usize;
+    let mut s = 0usize;
+    let mut at = 0usize;
+    let mut i = 0usize;
+    while i < sizes.len() {
+        let size = sizes[i];
+        let out = make_call(layer, size, prices, p, stamps, s, sheet, at);
+        numbers::put_answer(out.verdict, out.rows, answers, i);
+        at += ROW_BYTES * out.rows;
+        layer = out.after;
+        let n = size as usize;
+        p = least(p + 4 * n, prices.len());
+        s = least(s + n, stamps.len());
+        i += 1;
+    }
+}
+
+// Makes a layer and calls of these sizes to it: 0 is a close, any other number a run of that many of the bars that are left. The answer is
+// 0, or the number of the making's refusal, which leaves sheet and answers; each call's answer is how many rows it filled, behind those
+// of the calls before it, or 16,777,216 plus its refusal. th13 and th14 count tenths; hours have two numbers to a window.
+#[no_mangle]
+pub extern "C" fn jcc_terms(
+    th0: f64,
+    z2: u32,
+    th2: u32,
+    z3: u32,
+    th3: u32,
+    zdf5: u32,
+    th6: u32,
+    zdf7: u32,
+    th8: f64,
+    zf8: u32,
+    th10: u32,
+    th13: u32,
+    th14: u32,
+    minutes: u32,
+    hours: &[u32],
+    stamps: &[u32],
+    prices: &[f64],
+    sizes: &[u32],
+    sheet: &mut [u8],
+    answers: &mut [u32],
+) -> u32
+    ensures { λ r. ⌜ (r ≡ verdictNumber (madeIn (thresholdsOf th0 z2 th2 z3 th3 zdf5 th6 zdf7 th8 zf8 th10 th13 th14) minutes (now (hours .entry)) .verdict))
+        × (now (sheet .exit) ≡ sheetIn (thresholdsOf th0 z2 th2 z3 th3 zdf5 th6 zdf7 th8 zf8 th10 th13 th14) minutes (now (hours .entry)) (now (prices .entry)) (now (stamps .entry)) (now (sizes .entry)) (now (sheet .entry)))
+        × (now (answers .exit) ≡ answersIn (thresholdsOf th0 z2 th2 z3 th3 zdf5 th6 zdf7 th8 zf8 th10 th13 th14) minutes (now (hours .entry)) (now (prices .entry)) (now (stamps .entry)) (now (sizes .entry)) (now (sheet .entry)) (now (answers .entry))) ⌝ }
+{
+    let t = Thresholds::new(
+        th0,
+        z2,
+        th2,
+        z3,
+        th3,
+        zdf5,
+        th6,
+        zdf7,
+        th8,
+        zf8,
+        th10,
+        th13,
+        th14,
+    );
+    let made = terms::make(t, numbers::hours_of(hours), minutes);
+    let verdict = made.verdict;
+    match verdict {
+        Verdict::Denied(why) => refusal_number(why) as u32,
+        Verdict::Accepted => {
+            let l = made.after;
+            make_calls(l, sizes, prices, stamps, sheet, answers);
+            0
+        }
+    }
+}

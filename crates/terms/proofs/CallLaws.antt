@@ -1,0 +1,165 @@
+-- The calls' verdicts: what an accepted run or close meets, the stamps one by one, and what an accepted call leaves. Assumes nothing.
+use Prim.Native.Nat.{ℕ, zero, suc, _+_, _-_, _*_, _/_, _%_, _≤_, _<_}
+use mathlib.Core.Path.{_≡_, refl, ap, sym, _∙_}
+use mathlib.Core.Bool.{Bool, true, false, cond, not, _&&_}
+use mathlib.Core.List.{List, [], _∷_, _++_}
+use native.Mathlib.Omega.{arith}
+use native.Mathlib.Numerals.{add-one}
+use borrow.Author.Tests.{not-false, eqb-true, ltb-false}
+use lib.Dec.{eqb}
+use lib.ListN.{length, getD, take, drop, drop-of-length-le}
+use lib.Seq.{drop-cons}
+use lib.Ieee.{Float}
+use Rattle.measures.specs.Bar.{barsOf}
+use Rattle.measures.proofs.RunLaws.{length-bars}
+use Rattle.recognisers.specs.Threshold.{Thresholds}
+use Rattle.recognisers.specs.declared.call.Refusal.the-variants.{LateStamp, OutsideHours}
+use Rattle.recognisers.specs.declared.call.Verdict.{Verdict}
+use Rattle.recognisers.specs.declared.call.Verdict.the-variants.{Accepted, Denied}
+use Rattle.recognisers.specs.Number.{rowBytes, mostBars}
+use Rattle.recognisers.specs.Threshold.{validOf}
+use Rattle.recognisers.specs.Refusal.{Tried, firstTrue}
+use Rattle.bar_box.specs.declared.boxes.BarBox.{BarBox}
+use Rattle.bar_box.specs.Sheet.{rowsOf, overlay}
+use Rattle.bar_box.specs.Box.{kept, takenIn, feedVerdict, fedOf, sheetOf}
+use Rattle.bar_box.specs.History.{pricesOf}
+use Rattle.bar_box.proofs.PriceLaws.{length-prices, bars-prices}
+use Rattle.bar_box.proofs.FeedSteps.{Fits, fits, accepts}
+use Rattle.trading_hours.specs.declared.hours.Hours.{Hours}
+use Rattle.terms.specs.declared.events.LastStamp.{LastStamp}
+use Rattle.terms.specs.declared.events.LastStamp.the-variants.{Never, At}
+use Rattle.measures.specs.Bar.{Bar}
+use Rattle.terms.specs.declared.events.OpenBar.{OpenBar}
+use Rattle.terms.specs.declared.events.OpenBar.the-variants.{Nothing}
+use Rattle.terms.specs.declared.events.Carried.{Carried}
+use Rattle.terms.specs.declared.layers.Layer.{Layer}
+use Rattle.trading_hours.specs.Hours.{inHours, validHours, termLength}
+use Rattle.terms.specs.Events.{Event, Close, stepOf, endedOf, carriedOf, minutesOf}
+use Rattle.terms.specs.Layer.{above, stampsTried, soundCarried, validLayer, runTried, closeTried, runVerdict, closeVerdict, endedIn, layerWith, taken, takenOf}
+use Rattle.trading_hours.proofs.HourLaws.{both}
+use Rattle.bar_box.proofs.PartLaws.{fed-box, fed-sheet}
+
+-- ---- the stamps, one by one
+
+module _ (h : Hours) (last : LastStamp) (ss : List ℕ) (i : ℕ) (within : i < length ss) where
+  pub stamps-late : above last (getD ss i 0) ≡ false → firstTrue (stampsTried h last (drop i ss)) ≡ Denied LateStamp
+  unfolding firstTrue stampsTried
+  stamps-late e = rw (drop-cons ss i 0 within) (simp e)
+
+  pub stamps-outside : above last (getD ss i 0) ≡ true → inHours h (getD ss i 0) ≡ false → firstTrue (stampsTried h last (drop i ss)) ≡ Denied OutsideHours
+  unfolding firstTrue stampsTried
+  stamps-outside e f = rw (drop-cons ss i 0 within) (simp (e, f))
+
+  pub stamps-next : above last (getD ss i 0) ≡ true → inHours h (getD ss i 0) ≡ true
+      → firstTrue (stampsTried h last (drop i ss)) ≡ firstTrue (stampsTried h (At (getD ss i 0)) (drop (i + 1) ss))
+  unfolding firstTrue stampsTried
+  stamps-next e f = rw (add-one i, drop-cons ss i 0 within) (simp (e, f))
+
+pub stamps-past : (h : Hours) (last : LastStamp) (ss : List ℕ) (i : ℕ) → length ss ≤ i → firstTrue (stampsTried h last (drop i ss)) ≡ Accepted
+unfolding firstTrue stampsTried
+stamps-past h last ss i past = rw (drop-of-length-le ss past)
+
+-- ---- what an accepted call meets
+
+pub none-true : (x : Tried) (xs : List Tried) → firstTrue (x ∷ xs) ≡ Accepted → (x .met ≡ false) × (firstTrue xs ≡ Accepted)
+unfolding firstTrue
+none-true x xs = go (x .met) refl
+  where
+    go : (m : Bool) → x .met ≡ m → cond m (Denied (x .why)) (firstTrue xs) ≡ Accepted → (x .met ≡ false) × (firstTrue xs ≡ Accepted)
+    go true e none = (cc, cc)
+    go false e none = (e, none)
+
+-- the layer's hours, term length and carried bar keep the rules
+pub record LayerMeets (h : Hours) (m : ℕ) (c : Carried) : Type 0 where
+  pub hours : validHours h ≡ true
+  pub minutes : termLength m ≡ true
+  pub carried : soundCarried h (c .last) (c .pending) ≡ true
+
+pub layer-meets : (h : Hours) (m : ℕ) (c : Carried) → validLayer h m c ≡ true → LayerMeets h m c
+unfolding validLayer
+layer-meets h m c e =
+    let outer = both (validHours h && termLength m) (soundCarried h (c .last) (c .pending)) e in
+    let inner = both (validHours h) (termLength m) (outer .0) in
+    record { hours = inner .0; minutes = inner .1; carried = outer .1 }
+
+pub record RunMeets (t : Thresholds) (h : Hours) (m : ℕ) (c : Carried) (n prices : ℕ) (stamps : List ℕ) (sheet : ℕ) : Type 0 where
+  pub layer : LayerMeets h m c
+  pub one-each : length stamps ≡ prices / 4
+  pub feed : feedVerdict t n prices sheet ≡ Accepted
+  pub rising : firstTrue (stampsTried h (c .last) stamps) ≡ Accepted
+
+pub run-meets : (t : Thresholds) (h : Hours) (m : ℕ) (c : Carried) (n prices : ℕ) (stamps : List ℕ) (sheet : ℕ)
+    → runVerdict t h m c n prices stamps sheet ≡ Accepted → RunMeets t h m c n prices stamps sheet
+unfolding runTried
+run-meets t h m c n prices stamps sheet none =
+    let three = none-true _ _ none in
+    let twelve = none-true _ _ (three .1) in
+    let four = none-true _ _ (twelve .1) in
+    let five = none-true _ _ (four .1) in
+    let six = none-true _ _ (five .1) in
+    let whole = both (eqb (prices % 4) 0) (eqb (length stamps) (prices / 4)) (not-false _ (four .0)) in
+    record {
+      layer = layer-meets h m c (not-false _ (twelve .0));
+      one-each = eqb-true _ _ (whole .1);
+      feed = accepts t n prices sheet (record { valid = not-false _ (three .0); whole = eqb-true _ _ (whole .0); few = ltb-false _ _ (five .0); room = ltb-false _ _ (six .0) });
+      rising = six .1;
+    }
+
+pub record CloseMeets (t : Thresholds) (h : Hours) (m : ℕ) (c : Carried) (n sheet : ℕ) : Type 0 where
+  pub layer : LayerMeets h m c
+  pub feed : feedVerdict t n 4 sheet ≡ Accepted
+
+pub close-meets : (t : Thresholds) (h : Hours) (m : ℕ) (c : Carried) (n sheet : ℕ) → closeVerdict t h m c n sheet ≡ Accepted → CloseMeets t h m c n sheet
+unfolding closeTried
+close-meets t h m c n sheet none =
+    let three = none-true _ _ none in
+    let twelve = none-true _ _ (three .1) in
+    let five = none-true _ _ (twelve .1) in
+    let six = none-true _ _ (five .1) in
+    record {
+      layer = layer-meets h m c (not-false _ (twelve .0));
+      feed = accepts t n 4 sheet (record { valid = not-false _ (three .0); whole = refl; few = ltb-false _ _ (five .0); room = ltb-false _ _ (six .0) });
+    }
+
+-- ---- what a call leaves whose feed is not refused
+
+module _ (l : Layer) (es : List Event) (sheet : List ℕ) (e : feedVerdict (l .inner .thresholds) (l .inner .count) (length (pricesOf (endedIn l es))) (length sheet) ≡ Accepted) where
+  pub box-is : fedOf (l .inner) (pricesOf (endedIn l es)) (length sheet) .after ≡ takenIn (l .inner) (endedIn l es)
+  box-is = fed-box (l .inner) (pricesOf (endedIn l es)) sheet e ∙ rw (bars-prices (endedIn l es))
+
+  pub sheet-is : sheetOf (l .inner) (pricesOf (endedIn l es)) sheet ≡ overlay sheet 0 (rowsOf (l .inner .thresholds) (l .inner .count) (kept (l .inner)) (endedIn l es))
+  sheet-is = fed-sheet (l .inner) (pricesOf (endedIn l es)) sheet e ∙ rw (bars-prices (endedIn l es))
+
+  -- what the code builds of it
+  pub taken-is : taken Accepted (length (endedIn l es)) (layerWith (l .hours) (l .minutes) (carriedOf (l .hours) (l .minutes) (l .carried) es) (takenIn (l .inner) (endedIn l es)))
+      ≡ takenOf Accepted l es (length sheet)
+  taken-is = rw box-is
+
+-- ---- what an accepted call carries on keeps the rules
+
+-- after one bar
+pub stamp-sound : (h : Hours) (m : ℕ) (c : Carried) (s : ℕ) (b : Bar) → inHours h s ≡ true → let d = stepOf h m c s b .carried in soundCarried h (d .last) (d .pending) ≡ true
+unfolding stepOf soundCarried
+stamp-sound h m c s b e = e
+
+pub stamp-last : (h : Hours) (m : ℕ) (c : Carried) (s : ℕ) (b : Bar) → stepOf h m c s b .carried .last ≡ At s
+unfolding stepOf
+stamp-last h m c s b = refl
+
+pub stamps-sound : (h : Hours) (m : ℕ) (c : Carried) (ss : List ℕ) (bars : List Bar) → firstTrue (stampsTried h (c .last) ss) ≡ Accepted
+    → soundCarried h (c .last) (c .pending) ≡ true → let d = carriedOf h m c (minutesOf ss bars) in soundCarried h (d .last) (d .pending) ≡ true
+unfolding minutesOf carriedOf stampsTried
+stamps-sound h m c [] bars e k = k
+stamps-sound h m c (s ∷ ss) [] e k = k
+stamps-sound h m c (s ∷ ss) (b ∷ bars) e k =
+    let ten = none-true _ _ e in
+    let eleven = none-true _ _ (ten .1) in
+    stamps-sound h m (stepOf h m c s b .carried) ss bars (rw (stamp-last h m c s b) (eleven .1)) (stamp-sound h m c s b (not-false _ (eleven .0)))
+
+pub close-sound : (h : Hours) (m : ℕ) (c : Carried) → soundCarried h (c .last) (c .pending) ≡ true → let d = carriedOf h m c (Close ∷ []) in soundCarried h (d .last) (d .pending) ≡ true
+unfolding carriedOf soundCarried
+close-sound h m c k = go (c .last) (c .pending) k
+  where
+    go : (last : LastStamp) (p : OpenBar) → soundCarried h last p ≡ true → soundCarried h last Nothing ≡ true
+    go Never p k = refl
+    go (At s) p k = k

@@ -1,0 +1,170 @@
+-- One call to the layer that events left, against the same call to the plain list of events: its verdict, the layer after it and the rows that
+-- it gives. Assumes nothing.
+use Prim.Native.Nat.{ℕ, _+_, _*_, _/_, _≤_}
+use mathlib.Core.Path.{_≡_, refl, ap, sym, _∙_}
+use mathlib.Core.List.{List, [], _∷_, _++_, append-nil}
+use native.Mathlib.Omega.{arith}
+use native.Mathlib.Nat.{zero-add}
+use lib.ListN.{length, take, drop}
+use lib.Seq.{take-at}
+use Rattle.measures.specs.Bar.{Bar}
+use Rattle.measures.specs.Bar.{barsOf}
+use Rattle.measures.specs.Window.{newest}
+use Rattle.measures.proofs.RunLaws.{length-bars}
+use Rattle.recognisers.specs.Threshold.{Thresholds}
+use Rattle.recognisers.specs.declared.call.Verdict.{Verdict}
+use Rattle.recognisers.specs.declared.call.Verdict.the-variants.{Accepted, Denied}
+use Rattle.recognisers.specs.Number.{places, rowBytes}
+use Rattle.bar_box.specs.declared.boxes.BarBox.{BarBox}
+use Rattle.bar_box.specs.Sheet.{before, rowsOf, overlay}
+use Rattle.bar_box.specs.Box.{kept, takenIn, leaves, feedVerdict}
+use Rattle.bar_box.specs.History.{pricesOf, NoBars}
+use Rattle.bar_box.proofs.SheetLaws.{length-rows, rows-newest}
+use Rattle.bar_box.proofs.BoxLaws.{taken-append}
+use Rattle.bar_box.proofs.FeedSteps.{count-after, kept-after}
+use Rattle.trading_hours.specs.declared.hours.Hours.{Hours}
+use Rattle.terms.specs.declared.events.Carried.{Carried}
+use Rattle.terms.specs.declared.layers.Layer.{Layer}
+use Rattle.terms.specs.declared.layers.Taken.{Taken}
+use Rattle.terms.specs.Events.{Event, Close, nothingYet, barsIn, endedOf, carriedOf, minutesOf}
+use Rattle.terms.specs.Layer.{soundCarried, validLayer, layerWith, endedIn, afterEvents, takenOf, takenSheet, ranOf, ranSheet, closedOf, closedSheet}
+use Rattle.terms.specs.History.{Call, Run, Shut, sheetIn, eventsIn, verdictBy, verdictOn, appended, called, sheetAfter, rowsOfCall}
+use mathlib.Core.Bool.{true, _&&_, and-true}
+use Rattle.trading_hours.specs.Hours.{validHours, termLength}
+use Rattle.terms.proofs.EventLaws.{carried-last, carried-append, ended-append, ended-one, ended-few, few-in, length-minutes}
+use Rattle.terms.proofs.FeedLaws.{bars-accepted}
+use Rattle.terms.proofs.CallLaws.{run-meets, close-meets, stamps-sound, close-sound, box-is, sheet-is}
+
+-- ---- a call of either kind
+
+abbrev verdictAt : Layer → Call → Verdict
+verdictAt l x = verdictBy (l .inner .thresholds) (validLayer (l .hours) (l .minutes) (l .carried)) (l .hours) (l .carried .last) (l .inner .count) x
+
+called-is : (l : Layer) (x : Call) → called l x ≡ takenOf (verdictAt l x) l (eventsIn x) (length (sheetIn x))
+unfolding ranOf closedOf
+called-is l (Run prices stamps sheet) = refl
+called-is l (Shut sheet) = refl
+
+sheet-after-is : (l : Layer) (x : Call) → sheetAfter l x ≡ takenSheet (verdictAt l x) l (eventsIn x) (sheetIn x)
+unfolding ranSheet closedSheet
+sheet-after-is l (Run prices stamps sheet) = refl
+sheet-after-is l (Shut sheet) = refl
+
+-- the box's own feed of the term bars that end is not refused where the call isn't
+pub call-feed : (t : Thresholds) (h : Hours) (m : ℕ) (c : Carried) (n : ℕ) (x : Call) → verdictBy t (validLayer h m c) h (c .last) n x ≡ Accepted
+    → feedVerdict t n (length (pricesOf (endedOf h m c (eventsIn x)))) (length (sheetIn x)) ≡ Accepted
+call-feed t h m c n (Run prices stamps sheet) e =
+    let met = run-meets t h m c n (length prices) stamps (length sheet) e in
+    let each : length stamps ≡ length (barsOf prices) = met .one-each ∙ sym (length-bars prices) in
+    let es = minutesOf stamps (barsOf prices) in
+    let total = length-minutes stamps (barsOf prices) each in
+    let few = ended-few h m c es in
+    let one-each = met .one-each in
+    bars-accepted t n (length prices) (length sheet) (met .feed) (endedOf h m c es) (omega arith)
+call-feed t h m c n (Shut sheet) e =
+    let met = close-meets t h m c n (length sheet) e in
+    let few = ended-few h m c (Close ∷ []) in
+    bars-accepted t n 4 (length sheet) (met .feed) (endedOf h m c (Close ∷ [])) (omega arith)
+
+-- an accepted call carries on what keeps the rules
+call-sound : (t : Thresholds) (h : Hours) (m : ℕ) (c : Carried) (n : ℕ) (x : Call) → verdictBy t (validLayer h m c) h (c .last) n x ≡ Accepted
+    → soundCarried h (c .last) (c .pending) ≡ true → let d = carriedOf h m c (eventsIn x) in soundCarried h (d .last) (d .pending) ≡ true
+call-sound t h m c n (Run prices stamps sheet) e s = stamps-sound h m c stamps (barsOf prices) (run-meets t h m c n (length prices) stamps (length sheet) e .rising) s
+call-sound t h m c n (Shut sheet) e s = close-sound h m c s
+
+-- ---- the layer that events left
+
+module _ (l : Layer) (start : NoBars (l .inner)) where
+  abbrev ended : List Event → List Bar
+  ended es = endedOf (l .hours) (l .minutes) nothingYet es
+
+  abbrev carried : List Event → Carried
+  carried es = carriedOf (l .hours) (l .minutes) nothingYet es
+
+  abbrev pub layerOf : List Event → Layer
+  layerOf es = layerWith (l .hours) (l .minutes) (carried es) (takenIn (l .inner) (ended es))
+
+  abbrev on : List Event → Call → Verdict
+  on es x = verdictOn (l .inner .thresholds) (l .hours) (l .minutes) es x
+
+  -- its kept stamp lies in the hours, and an open term bar has a stamp: 12 can't be true of it for these
+  unfoldable pub Kept : List Event → Type 0
+  Kept es = soundCarried (l .hours) (carried es .last) (carried es .pending) ≡ true
+
+  -- its verdict on a call is that of the events
+  verdict-at : (es : List Event) (x : Call) → Kept es → verdictAt (layerOf es) x ≡ on es x
+  unfolding Kept validLayer
+  verdict-at es x k =
+      let last = carried-last (l .hours) (l .minutes) nothingYet es in
+      rw (count-after (l .inner) start (ended es), k, and-true (validHours (l .hours) && termLength (l .minutes)), last)
+
+  pub verdict-step : (es : List Event) (x : Call) → Kept es → called (layerOf es) x .verdict ≡ on es x
+  verdict-step es x k = ap (λ (o : Taken). o .verdict) (called-is (layerOf es) x) ∙ verdict-at es x k
+
+  -- no event left it so, and each call leaves it so
+  pub kept-none : Kept []
+  unfolding Kept carriedOf soundCarried
+  kept-none = refl
+
+  kept-by : (v : Verdict) (es : List Event) (x : Call) → verdictAt (layerOf es) x ≡ v → Kept es → Kept (leaves v es (es ++ eventsIn x))
+  unfolding Kept
+  kept-by Accepted es x e k = rw (carried-append (l .hours) (l .minutes) nothingYet es (eventsIn x)) (call-sound _ _ _ _ _ x e k)
+  kept-by (Denied r) es x e k = k
+
+  pub kept-step : (es : List Event) (x : Call) → Kept es → Kept (appended (l .inner .thresholds) (l .hours) (l .minutes) es x)
+  kept-step es x k = rw (verdict-at es x k) at (kept-by (verdictAt (layerOf es) x) es x refl k)
+
+  -- an accepted call leaves the layer that the events and its own leave
+  accepted-layer : (es : List Event) (x : Call) → verdictAt (layerOf es) x ≡ Accepted → afterEvents (layerOf es) (eventsIn x) (length (sheetIn x)) ≡ layerOf (es ++ eventsIn x)
+  accepted-layer es x e =
+      let new = eventsIn x in
+      let feed = call-feed _ _ _ _ _ x e in
+      rw (
+        box-is (layerOf es) new (sheetIn x) feed,
+        taken-append (l .inner) (start .all-places) (ended es) (endedOf (l .hours) (l .minutes) (carried es) new),
+        ← ended-append (l .hours) (l .minutes) nothingYet es new,
+        ← carried-append (l .hours) (l .minutes) nothingYet es new,
+      )
+
+  layer-by : (v : Verdict) (es : List Event) (x : Call) → verdictAt (layerOf es) x ≡ v
+      → leaves v (layerOf es) (afterEvents (layerOf es) (eventsIn x) (length (sheetIn x))) ≡ layerOf (leaves v es (es ++ eventsIn x))
+  layer-by Accepted es x e = accepted-layer es x e
+  layer-by (Denied r) es x e = refl
+
+  pub layer-step : (es : List Event) (x : Call) → Kept es → called (layerOf es) x .after ≡ layerOf (appended (l .inner .thresholds) (l .hours) (l .minutes) es x)
+  layer-step es x k =
+      ap (λ (o : Taken). o .after) (called-is (layerOf es) x)
+      ∙ layer-by (verdictAt (layerOf es) x) es x refl
+      ∙ ap (λ (v : Verdict). layerOf (leaves v es (es ++ eventsIn x))) (verdict-at es x k)
+
+  -- the rows that a call gives are those of its term bars over all term bars before them
+  rows-by : (v : Verdict) (es : List Event) (x : Call) → verdictAt (layerOf es) x ≡ v
+      → let new = endedIn (layerOf es) (eventsIn x) in
+      take (rowBytes * leaves v 0 (length new)) (takenSheet v (layerOf es) (eventsIn x) (sheetIn x))
+      ≡ leaves v [] (rowsOf (l .inner .thresholds) (length (ended es)) (ended es) new)
+  rows-by Accepted es x e =
+      let t = l .inner .thresholds in
+      let old = ended es in
+      let new = endedIn (layerOf es) (eventsIn x) in
+      let feed = call-feed _ _ _ _ _ x e in
+      rw (
+        sheet-is (layerOf es) (eventsIn x) (sheetIn x) feed,
+        kept-after (l .inner) start old,
+        count-after (l .inner) start old,
+        rows-newest places (omega arith) t (length old) old new,
+      )
+      (take-at (rowsOf t (length old) old new) (drop (0 + length (rowsOf t (length old) old new)) (sheetIn x)) (rowBytes * length new) (length-rows t (length old) old new))
+  rows-by (Denied r) es x e = refl
+
+  pub rows-step : (es : List Event) (x : Call) → Kept es
+      → rowsOfCall (layerOf es) x ≡ leaves (on es x) [] (rowsOf (l .inner .thresholds) (length (ended es)) (ended es) (endedOf (l .hours) (l .minutes) (carried es) (eventsIn x)))
+  rows-step es x k =
+      let new = endedIn (layerOf es) (eventsIn x) in
+      rw (called-is (layerOf es) x, sheet-after-is (layerOf es) x)
+      (rows-by (verdictAt (layerOf es) x) es x refl
+      ∙ ap (λ (v : Verdict). leaves v [] (rowsOf (l .inner .thresholds) (length (ended es)) (ended es) new)) (verdict-at es x k))
+
+  -- where the events say that a call is accepted, a feed of its term bars is
+  pub events-feed : (es : List Event) (x : Call) → Kept es → on es x ≡ Accepted
+      → feedVerdict (l .inner .thresholds) (length (ended es)) (length (pricesOf (endedOf (l .hours) (l .minutes) (carried es) (eventsIn x)))) (length (sheetIn x)) ≡ Accepted
+  events-feed es x k e = rw (count-after (l .inner) start (ended es)) at (call-feed _ _ _ (carried es) _ x (verdict-at es x k ∙ e))

@@ -1,0 +1,119 @@
+-- Stamps that a run isn't refused for, one after the other, with the end of the last one's term. Assumes nothing.
+use Prim.Native.Nat.{ℕ, zero, suc, _+_, _<_}
+use mathlib.Core.Path.{_≡_, refl, ap, sym, _∙_}
+use mathlib.Core.Bool.{Bool, true, false, _&&_}
+use mathlib.Core.List.{List, [], _∷_, _++_}
+use native.Mathlib.Omega.{arith}
+use lib.Dec.{ltb}
+use lib.ListN.{length, getD, take, drop, length-drop}
+use lib.Seq.{drop-cons, getD-drop}
+use borrow.Author.Tests.{not-false, ltb-true, le-ltb}
+use Rattle.measures.specs.Bar.{Bar}
+use Rattle.recognisers.specs.declared.call.Verdict.the-variants.{Accepted}
+use Rattle.recognisers.specs.Refusal.{firstTrue}
+use Rattle.trading_hours.specs.declared.hours.Hours.{Hours}
+use Rattle.terms.specs.declared.events.LastStamp.{LastStamp}
+use Rattle.terms.specs.declared.events.LastStamp.the-variants.{Never, At}
+use Rattle.terms.specs.declared.events.OpenBar.{OpenBar}
+use Rattle.terms.specs.declared.events.OpenBar.the-variants.{Nothing, Begun}
+use Rattle.terms.specs.declared.events.Carried.{Carried}
+use Rattle.trading_hours.specs.Hours.{validHours, inHours}
+use Rattle.terms.specs.Events.{goesOn, stepOf, carriedOf, minutesOf}
+use Rattle.terms.specs.Layer.{above, soundCarried, validLayer, stampsTried}
+use Rattle.trading_hours.specs.TermRule.{endOf}
+use Rattle.terms.specs.Passing.{endAfter, EndKnown, Ready}
+use Rattle.trading_hours.proofs.EndLaws.{end-rule}
+use Rattle.terms.proofs.CallLaws.{none-true, stamp-sound, stamp-last, layer-meets}
+use Rattle.trading_hours.proofs.HourLaws.{term-some}
+
+-- ---- a stamp above the last one
+
+module _ (h : Hours) (m end s : ℕ) where
+  -- before the end of the last one's term it lies in the hours, and its own term ends there too
+  pub end-inside : (last : LastStamp) → EndKnown h m last end → above last s ≡ true → s < end → (inHours h s ≡ true) × (endOf h m s ≡ end)
+  unfolding above endAfter soundCarried
+  end-inside Never k up lt = let none = k .end-is in absurd (let z : ⊥ = omega arith in z)
+  end-inside (At a) k up lt =
+      let e = k .end-is in
+      let rule = end-rule h m (k .some) (k .valid) in
+      let later = ltb-true a s up in
+      let there = rule .before-end a s (k .sound) (omega arith) (rw e at lt) in
+      (there .0, rule .same-end s a (there .1) ∙ sym e)
+
+  -- it goes on in that term exactly if it lies before the end
+  pub end-goes-on : (last : LastStamp) → EndKnown h m last end → above last s ≡ true → inHours h s ≡ true → goesOn h m last s ≡ ltb s end
+  unfolding above endAfter soundCarried goesOn
+  end-goes-on Never k up there = rw (k .end-is) (sym (le-ltb s 0 (omega arith)))
+  end-goes-on (At a) k up there =
+      let rule = end-rule h m (k .some) (k .valid) in
+      let later = ltb-true a s up in
+      rule .same-before a s (k .sound) there (omega arith) ∙ rw (k .end-is)
+
+  -- and is then the last one itself
+  pub end-next : (last : LastStamp) → EndKnown h m last end → inHours h s ≡ true → EndKnown h m (At s) (endOf h m s)
+  unfolding endAfter soundCarried
+  end-next last k there = record { some = k .some; valid = k .valid; sound = there; end-is = refl }
+
+-- ---- the stamps of a run
+
+pub sound-closed : (h : Hours) (last : LastStamp) (p : OpenBar) → soundCarried h last p ≡ true → soundCarried h last Nothing ≡ true
+unfolding soundCarried
+sound-closed h Never p k = refl
+sound-closed h (At s) p k = k
+
+pub ready-end : (h : Hours) (m : ℕ) (c : Carried) (ss : List ℕ) → Ready h m c ss → EndKnown h m (c .last) (endAfter h m (c .last))
+ready-end h m c ss r = record { some = r .some; valid = r .valid; sound = sound-closed h (c .last) (c .pending) (r .sound); end-is = refl }
+
+-- the next one is above the last and lies in the hours
+pub next-fits : (h : Hours) (last : LastStamp) (ss : List ℕ) (i : ℕ) → i < length ss → firstTrue (stampsTried h last (drop i ss)) ≡ Accepted
+    → (above last (getD ss i 0) ≡ true) × (inHours h (getD ss i 0) ≡ true)
+unfolding stampsTried
+next-fits h last ss i within e =
+    let here = rw (drop-cons ss i 0 within) at e in
+    let ten = none-true _ _ here in
+    let eleven = none-true _ _ (ten .1) in
+    (not-false _ (ten .0), not-false _ (eleven .0))
+
+minutes-none : (ss : List ℕ) → minutesOf ss [] ≡ []
+unfolding minutesOf
+minutes-none [] = refl
+minutes-none (s ∷ ss) = refl
+
+-- the events from one on
+pub minutes-drop : (k : ℕ) (ss : List ℕ) (bars : List Bar) → drop k (minutesOf ss bars) ≡ minutesOf (drop k ss) (drop k bars)
+unfolding minutesOf
+minutes-drop zero ss bars = refl
+minutes-drop (suc k) [] bars = refl
+minutes-drop (suc k) (s ∷ ss) [] = sym (minutes-none (drop k ss))
+minutes-drop (suc k) (s ∷ ss) (b ∷ bars) = minutes-drop k ss bars
+
+-- after some of them the rest is ready
+pub ready-after : (h : Hours) (m : ℕ) (c : Carried) (ss : List ℕ) (bars : List Bar) (k : ℕ) → length ss ≡ length bars → Ready h m c ss
+    → Ready h m (carriedOf h m c (take k (minutesOf ss bars))) (drop k ss)
+unfolding minutesOf carriedOf stampsTried
+ready-after h m c ss bars zero each r = r
+ready-after h m c [] bars (suc k) each r = r
+ready-after h m c (s ∷ ss) [] (suc k) each r = absurd (let z : ⊥ = omega arith in z)
+ready-after h m c (s ∷ ss) (b ∷ bars) (suc k) each r =
+    let ten = none-true _ _ (r .rising) in
+    let eleven = none-true _ _ (ten .1) in
+    ready-after h m (stepOf h m c s b .carried) ss bars k (omega arith)
+    record { some = r .some; valid = r .valid; sound = stamp-sound h m c s b (not-false _ (eleven .0)); rising = rw (stamp-last h m c s b) (eleven .1) }
+
+-- the next bar of a run, after some
+pub fill-ready : (h : Hours) (m : ℕ) (c : Carried) (ss : List ℕ) (bars : List Bar) (from k : ℕ) → length ss ≡ length bars → from + k < length ss → Ready h m c (drop from ss)
+    → let last = carriedOf h m c (take k (drop from (minutesOf ss bars))) .last in
+    (EndKnown h m last (endAfter h m last)) × ((above last (getD ss (from + k) 0) ≡ true) × (inHours h (getD ss (from + k) 0) ≡ true))
+fill-ready h m c ss bars from k each within ready =
+    let left : length (drop from ss) ≡ length (drop from bars) = rw (length-drop from ss, length-drop from bars) (omega arith) in
+    let near : k < length (drop from ss) = rw (length-drop from ss) (omega arith) in
+    let r = ready-after h m c (drop from ss) (drop from bars) k left ready in
+    let d = carriedOf h m c (take k (minutesOf (drop from ss) (drop from bars))) in
+    let fit = rw (getD-drop from ss k 0) at (next-fits h (d .last) (drop from ss) k near (r .rising)) in
+    rw (minutes-drop from ss bars) (ready-end h m d (drop k (drop from ss)) r, fit)
+
+-- a layer that keeps the rules
+pub layer-end : (h : Hours) (m : ℕ) (c : Carried) → validLayer h m c ≡ true → EndKnown h m (c .last) (endAfter h m (c .last))
+layer-end h m c e =
+    let met = layer-meets h m c e in
+    record { some = term-some m (met .minutes); valid = met .hours; sound = sound-closed h (c .last) (c .pending) (met .carried); end-is = refl }

@@ -1,0 +1,240 @@
+-- What every list of calls leaves, over every layer to which nothing came and over the layer that making gives. Assumes nothing.
+use Prim.Native.Nat.{ℕ, _+_, _*_, _≤_}
+use mathlib.Core.Path.{_≡_, refl, ap, sym, _∙_}
+use mathlib.Core.Bool.{Bool, true, false, cond, not}
+use mathlib.Core.List.{List, [], _∷_, _++_, append-assoc, append-nil}
+use native.Mathlib.Omega.{arith}
+use native.Mathlib.Nat.{zero-add}
+use lib.ListN.{length, length-append}
+use Rattle.measures.specs.Bar.{Bar}
+use Rattle.recognisers.specs.Threshold.{Thresholds}
+use Rattle.recognisers.specs.declared.call.Verdict.{Verdict}
+use Rattle.recognisers.specs.declared.call.Verdict.the-variants.{Accepted, Denied}
+use Rattle.recognisers.specs.Number.{rowBytes, mostBars}
+use Rattle.bar_box.specs.Sheet.{rowsOf}
+use Rattle.measures.specs.Bar.{barsOf}
+use Rattle.recognisers.specs.Threshold.{standardSet, validOf}
+use borrow.Author.Tests.{not-false}
+use Rattle.bar_box.specs.Box.{takenIn, leaves, fedOf}
+use Rattle.bar_box.proofs.SheetLaws.{rows-append}
+use Rattle.bar_box.proofs.BoxLaws.{taken-none}
+use Rattle.bar_box.specs.History.{pricesOf, oneFeed, historyAfter, verdictOn as boxVerdictOn, appended as boxAppended}
+use Rattle.bar_box.proofs.PriceLaws.{length-prices, bars-prices}
+use Rattle.bar_box.proofs.Demand3.{standard-valid, fresh-none, demand-3}
+use Rattle.bar_box.proofs.FeedSteps.{fits}
+use Rattle.bar_box.proofs.FeedLists.{Sound, sound-empty, one-accepted, one-box, one-rows}
+use Rattle.trading_hours.specs.declared.hours.Hours.{Hours}
+use Rattle.terms.specs.declared.events.Carried.{Carried}
+use Rattle.terms.specs.declared.layers.Layer.{Layer}
+use Rattle.terms.specs.Events.{Event, nothingYet, endedOf, carriedOf}
+use Rattle.terms.specs.History.{Call, eventsIn, sheetIn, verdictOn, appended, eventsAfter, verdictsOn, called, layerAfter, verdictsOf, joinedEnded, rowsOfCall, joinedRows, Holds, NoneYet, TermCalls}
+use Rattle.trading_hours.specs.Hours.{mostWindows, windowsOf, withZeros, validHours, risingFrom, termLength}
+use Rattle.trading_hours.proofs.HourLaws.{zeros-windows}
+use Rattle.terms.specs.Layer.{wholeDay, soundCarried, validLayer, makeVerdict, taken, madeBy, madeOf}
+use Rattle.terms.proofs.CallLaws.{none-true}
+use Rattle.terms.proofs.EventLaws.{carried-last, ended-append}
+use Rattle.terms.proofs.CallSteps.{Kept, kept-none, kept-step, events-feed, layerOf, verdict-step, layer-step, rows-step}
+
+-- ---- one feed of bars to no history
+
+none-left : (v : Verdict) → leaves {A = List Bar} v [] [] ≡ []
+none-left Accepted = refl
+none-left (Denied r) = refl
+
+-- it leaves the bars, if it is accepted where there is one
+whole : (t : Thresholds) (sheet : List ℕ) (bars : List Bar) → (1 ≤ length bars → boxVerdictOn t [] (oneFeed bars sheet) ≡ Accepted) → boxAppended t [] (oneFeed bars sheet) ≡ bars
+unfolding pricesOf barsOf
+whole t sheet [] p = none-left (boxVerdictOn t [] (oneFeed [] sheet))
+whole t sheet (b ∷ bars) p = rw (p (omega arith)) (bars-prices (b ∷ bars))
+
+module _ (l : Layer) (start : NoneYet l) where
+  abbrev t : Thresholds
+  t = l .inner .thresholds
+
+  abbrev ended : List Event → List Bar
+  ended es = endedOf (l .hours) (l .minutes) nothingYet es
+
+  abbrev after : List Event → Layer
+  after es = layerOf l (start .no-bars) es
+
+  abbrev more : List Event → Call → List Event
+  more es x = appended t (l .hours) (l .minutes) es x
+
+  -- ---- the lists
+
+  verdicts-after : (es : List Event) (xs : List Call) → Kept l (start .no-bars) es → verdictsOf (after es) xs ≡ verdictsOn t (l .hours) (l .minutes) es xs
+  unfolding verdictsOf verdictsOn
+  verdicts-after es [] k = refl
+  verdicts-after es (x ∷ xs) k = rw (verdict-step l (start .no-bars) es x k, layer-step l (start .no-bars) es x k, verdicts-after (more es x) xs (kept-step l (start .no-bars) es x k))
+
+  layer-after : (es : List Event) (xs : List Call) → Kept l (start .no-bars) es → layerAfter (after es) xs ≡ after (eventsAfter t (l .hours) (l .minutes) es xs)
+  unfolding layerAfter eventsAfter
+  layer-after es [] k = refl
+  layer-after es (x ∷ xs) k = rw (layer-step l (start .no-bars) es x k) (layer-after (more es x) xs (kept-step l (start .no-bars) es x k))
+
+  -- the rows of the term bars so far, and then those that a call gives, by its verdict
+  rows-by : (v : Verdict) (es new : List Event)
+      → let old = ended es in
+      rowsOf t 0 [] old ++ leaves v [] (rowsOf t (length old) old (endedOf (l .hours) (l .minutes) (carriedOf (l .hours) (l .minutes) nothingYet es) new)) ≡ rowsOf t 0 [] (ended (leaves v es (es ++ new)))
+  rows-by Accepted es new =
+      let old = ended es in
+      rw (ended-append (l .hours) (l .minutes) nothingYet es new)
+      (sym (rows-append t 0 [] old (endedOf (l .hours) (l .minutes) (carriedOf (l .hours) (l .minutes) nothingYet es) new) ∙ rw zero-add))
+  rows-by (Denied r) es new = append-nil (rowsOf t 0 [] (ended es))
+
+  rows-after : (es : List Event) (xs : List Call) → Kept l (start .no-bars) es → rowsOf t 0 [] (ended es) ++ joinedRows (after es) xs ≡ rowsOf t 0 [] (ended (eventsAfter t (l .hours) (l .minutes) es xs))
+  unfolding joinedRows eventsAfter
+  rows-after es [] k = append-nil (rowsOf t 0 [] (ended es))
+  rows-after es (x ∷ xs) k =
+      let v = verdictOn t (l .hours) (l .minutes) es x in
+      let given = leaves v [] (rowsOf t (length (ended es)) (ended es) (endedOf (l .hours) (l .minutes) (carriedOf (l .hours) (l .minutes) nothingYet es) (eventsIn x))) in
+      rw (rows-step l (start .no-bars) es x k, layer-step l (start .no-bars) es x k, ← append-assoc (rowsOf t 0 [] (ended es)) given, rows-by v es (eventsIn x))
+      (rows-after (more es x) xs (kept-step l (start .no-bars) es x k))
+
+  -- the term bars that ended so far, and then those that end in a call, by its verdict
+  ended-by : (v : Verdict) (es new : List Event) → ended es ++ leaves v [] (endedOf (l .hours) (l .minutes) (carriedOf (l .hours) (l .minutes) nothingYet es) new) ≡ ended (leaves v es (es ++ new))
+  ended-by Accepted es new = sym (ended-append (l .hours) (l .minutes) nothingYet es new)
+  ended-by (Denied r) es new = append-nil (ended es)
+
+  ended-after : (es : List Event) (xs : List Call) → Kept l (start .no-bars) es → ended es ++ joinedEnded (after es) xs ≡ ended (eventsAfter t (l .hours) (l .minutes) es xs)
+  unfolding joinedEnded eventsAfter
+  ended-after es [] k = append-nil (ended es)
+  ended-after es (x ∷ xs) k =
+      let v = verdictOn t (l .hours) (l .minutes) es x in
+      let new = endedOf (l .hours) (l .minutes) (carriedOf (l .hours) (l .minutes) nothingYet es) (eventsIn x) in
+      rw (verdict-step l (start .no-bars) es x k, layer-step l (start .no-bars) es x k, ← append-assoc (ended es) (leaves v [] new), ended-by v es (eventsIn x))
+      (ended-after (more es x) xs (kept-step l (start .no-bars) es x k))
+
+  -- ---- what the refusals see to
+
+  sound-by : (v : Verdict) (es : List Event) (x : Call) → verdictOn t (l .hours) (l .minutes) es x ≡ v → Kept l (start .no-bars) es → Sound t (ended es) → Sound t (ended (leaves v es (es ++ eventsIn x)))
+  sound-by Accepted es x e k s =
+      let c = carriedOf (l .hours) (l .minutes) nothingYet es in
+      let new = endedOf (l .hours) (l .minutes) c (eventsIn x) in
+      let met = fits _ _ _ _ (events-feed l (start .no-bars) es x k e) in
+      let four = length-prices new in
+      rw (ended-append (l .hours) (l .minutes) nothingYet es (eventsIn x)) record { few = rw length-append (omega (arith, met .few)); valid = λ some. met .valid }
+  sound-by (Denied r) es x e k s = s
+
+  sound-after : (es : List Event) (xs : List Call) → Kept l (start .no-bars) es → Sound t (ended es) → Sound t (ended (eventsAfter t (l .hours) (l .minutes) es xs))
+  unfolding eventsAfter
+  sound-after es [] k s = s
+  sound-after es (x ∷ xs) k s = sound-after (more es x) xs (kept-step l (start .no-bars) es x k) (sound-by (verdictOn t (l .hours) (l .minutes) es x) es x refl k s)
+
+  -- the layer is the one that no event leaves
+  at-start : l ≡ after []
+  unfolding endedOf carriedOf
+  at-start = rw (taken-none (l .inner) (start .no-bars .all-places), ← start .nothing)
+
+  -- ---- the one list of events
+
+  module _ (xs : List Call) where
+    abbrev events : List Event
+    events = eventsAfter t (l .hours) (l .minutes) [] xs
+
+    -- no more than 1,000,000 term bars ended in it, and none if the thresholds are outside their limits
+    ended-sound : Sound t (ended events)
+    unfolding endedOf
+    ended-sound = sound-after [] xs (kept-none l (start .no-bars)) (sound-empty t)
+
+    -- the layer is the one that the events leave
+    pub joined-layer : layerAfter l xs ≡ after events
+    joined-layer = ap (λ (x : Layer). layerAfter x xs) at-start ∙ layer-after [] xs (kept-none l (start .no-bars))
+
+    -- the rows are those of the term bars that ended in it
+    pub joined-rows : joinedRows l xs ≡ rowsOf t 0 [] (ended events)
+    unfolding rowsOf endedOf
+    joined-rows = ap (λ (x : Layer). joinedRows x xs) at-start ∙ rows-after [] xs (kept-none l (start .no-bars))
+
+    -- and end call by call
+    pub joined-ended : joinedEnded l xs ≡ ended events
+    unfolding endedOf
+    joined-ended = ap (λ (x : Layer). joinedEnded x xs) at-start ∙ ended-after [] xs (kept-none l (start .no-bars))
+
+    module _ (sheet : List ℕ) (room : rowBytes * length (ended events) ≤ length sheet) where
+      -- one feed of them gives them for its history
+      one-history : historyAfter t [] (oneFeed (ended events) sheet ∷ []) ≡ ended events
+      unfolding historyAfter fedOf
+      one-history =
+          whole t sheet (ended events)
+          (λ some.
+          let valid = ended-sound .valid some in
+          rw (start .no-bars .none) at (one-accepted (l .inner) (start .no-bars) (ended events) sheet ended-sound room valid))
+
+      holds-after : Holds l xs events (ended events) sheet
+      holds-after =
+          let no-bars = start .no-bars in
+          let sound = ended-sound in
+          let bars = ended events in
+          record {
+            -- (a)
+            refusals = ap (λ (x : Layer). verdictsOf x xs) at-start ∙ verdicts-after [] xs (kept-none l (start .no-bars));
+            -- (b)
+            same-ended = joined-ended;
+            -- (c)
+            same-rows = joined-rows ∙ sym (one-rows (l .inner) no-bars bars sheet sound room);
+            same-box = ap (λ (x : Layer). x .inner) joined-layer ∙ sym (one-box (l .inner) no-bars bars sheet sound room);
+            accepted = one-accepted (l .inner) no-bars bars sheet sound room;
+            demand-3 = rw one-history at (demand-3 .holds (l .inner) no-bars (oneFeed bars sheet ∷ []) sheet (rw one-history room));
+            -- (d)
+            same-carried = ap (λ (x : Layer). x .carried) joined-layer;
+            same-stamp = ap (λ (x : Layer). x .carried .last) joined-layer ∙ carried-last (l .hours) (l .minutes) nothingYet events;
+            same-hours = ap (λ (x : Layer). x .hours) joined-layer;
+            same-minutes = ap (λ (x : Layer). x .minutes) joined-layer;
+          }
+
+  -- the same events in other calls
+  same-cuts : (xs ys : List Call) → events xs ≡ events ys → (layerAfter l xs ≡ layerAfter l ys) × (joinedRows l xs ≡ joinedRows l ys)
+  same-cuts xs ys e = (joined-layer xs ∙ rw e (sym (joined-layer ys)), joined-rows xs ∙ rw e (sym (joined-rows ys)))
+
+-- ---- the layer that making gives
+
+made-by : (v : Verdict) (t : Thresholds) (h : Hours) (m : ℕ) → NoneYet (madeBy v t h m)
+made-by Accepted t h m = record { nothing = refl; no-bars = fresh-none t }
+made-by (Denied r) t h m = record { nothing = refl; no-bars = fresh-none standardSet }
+
+made-any : (t : Thresholds) (h : Hours) (m : ℕ) → NoneYet (madeOf t h m .after)
+unfolding madeOf
+made-any t h m = made-by (makeVerdict t h m) t h m
+
+-- one window from 0 to 1,440 and 5 keep the rules
+pub standard-layer : validLayer wholeDay 5 nothingYet ≡ true
+unfolding validLayer validHours risingFrom termLength soundCarried wholeDay
+standard-layer = refl
+
+Valid : Layer → Type 0
+Valid l = (validOf (l .inner .thresholds) ≡ true) × (validLayer (l .hours) (l .minutes) (l .carried) ≡ true)
+
+-- hours keep the rules as those with the same windows in use do
+valid-same : (g h : Hours) (m : ℕ) → g .count ≡ h .count → windowsOf g ≡ windowsOf h → validLayer g m nothingYet ≡ validLayer h m nothingYet
+unfolding validLayer validHours soundCarried
+valid-same g h m c w = rw (w, c)
+
+valid-by : (v : Verdict) (t : Thresholds) (h : Hours) (m : ℕ) → length (h .windows) ≡ mostWindows → makeVerdict t h m ≡ v → Valid (madeBy v t h m)
+unfolding makeVerdict Valid withZeros
+valid-by Accepted t h m full e =
+    let three = none-true _ _ e in
+    let twelve = none-true _ _ (three .1) in
+    (not-false _ (three .0), valid-same (withZeros h) h m refl (zeros-windows h full) ∙ not-false _ (twelve .0))
+valid-by (Denied r) t h m full e = (standard-valid, standard-layer)
+
+made-valid : (t : Thresholds) (h : Hours) (m : ℕ) → length (h .windows) ≡ mostWindows → Valid (madeOf t h m .after)
+unfolding madeOf
+made-valid t h m full = valid-by (makeVerdict t h m) t h m full refl
+
+made-by-same : (v : Verdict) (t : Thresholds) (g h : Hours) (m : ℕ) → withZeros g ≡ withZeros h → madeBy v t g m ≡ madeBy v t h m
+made-by-same Accepted t g h m e = rw e
+made-by-same (Denied r) t g h m e = refl
+
+made-same : (t : Thresholds) (g h : Hours) (m : ℕ) → g .count ≡ h .count → windowsOf g ≡ windowsOf h → madeOf t g m ≡ madeOf t h m
+unfolding madeOf makeVerdict withZeros
+made-same t g h m c w =
+    let v = makeVerdict t h m in
+    let same : makeVerdict t g m ≡ v = rw (valid-same g h m c w) in
+    ap (λ (x : Verdict). taken x 0 (madeBy x t g m)) same ∙ ap (taken v 0) (made-by-same v t g h m (rw (w, c)))
+
+-- ---- said of the whole list at once
+
+pub term-calls : TermCalls
+unfolding Valid
+term-calls = record { holds = holds-after; cuts = same-cuts; made = made-any; made-valid = made-valid; made-same = made-same }

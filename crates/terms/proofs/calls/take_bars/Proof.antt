@@ -1,0 +1,248 @@
+use Rattle.terms.proofs.PassingLaws.{ready-after}
+use mathlib.Core.Path.{_≡_, refl, ap, sym, _∙_}
+use native.Mathlib.Omega.{arith}
+use Prim.Native.Nat.{_+_, _-_, _*_, _/_, _≤_, _<_}
+use lib.ListN.{length, length-map, take, drop, length-append, length-take, length-drop}
+use lib.Seq.{take-all}
+use Rattle.measures.specs.Bar.{barsOf}
+use Rattle.measures.proofs.RunLaws.{length-bars}
+use Rattle.bar_box.specs.Sheet.{rowsOf, overlay}
+use Rattle.bar_box.specs.Box.{kept, takenIn}
+use Rattle.bar_box.proofs.Overlay.{overlay-none}
+use Rattle.bar_box.proofs.FeedSteps.{fits}
+use Rattle.bar_box.proofs.BoxLaws.{taken-none, taken-append}
+use Rattle.bar_box.proofs.PriceLaws.{bars-prices}
+use Rattle.terms.specs.Events.{endedOf, carriedOf, minutesOf}
+use Rattle.terms.specs.Passing.{FilledBy}
+use Rattle.terms.proofs.EventLaws.{ended-few, length-minutes, ended-more, carried-more}
+use Rattle.bar_box.proofs.PartLaws.{rows-both}
+use Rattle.terms.proofs.FeedLaws.{some-accepted, some-room}
+use Prim.Native.Nat.{_+_, _-_, _*_, _/_, _≤_}
+use lib.ListN.{length, length-map, take, drop, length-append, length-take}
+use borrow.Author.Needs.{needs}
+use Rattle.terms.proofs.calls.take_bars.Statement.{statement}
+use Rattle.terms.proofs.calls.take_bars.Tie as tie
+
+abbrev Inv-loop : tie.InvT-loop
+Inv-loop h m prices stamps sheet₀ run₀ n carried₀ inner₀ rows₀ done₀ sheet run carried inner rows done = let es = minutesOf stamps (barsOf prices) in (done ≤ n) × (length sheet ≡ length sheet₀) × (length run ≡ 128) × (carried ≡ carriedOf h m carried₀ (take done es)) × (inner ≡ takenIn inner₀ (endedOf h m carried₀ (take done es))) × (rows ≡ length (endedOf h m carried₀ (take done es))) × (sheet ≡ overlay sheet₀ 0 (rowsOf (inner₀ .thresholds) (inner₀ .count) (kept inner₀) (endedOf h m carried₀ (take done es))))
+
+abbrev μ-loop : tie.MeasureT-loop
+μ-loop h m prices stamps sheet₀ run₀ n carried₀ inner₀ rows₀ done₀ sheet run carried inner rows done = n - done
+
+loop-holds : tie.Need-loop-holds Inv-loop μ-loop
+unfolding endedOf carriedOf rowsOf
+loop-holds c =
+    let start = c .before .before .before in
+    let args = start .args in
+    let all : length (args .b .bars) ≡ 64 = simp length-map at (start .good .1 .1 .1 .0 .1 .1 .1 .1 .0 .1 .0 .1) in
+    (search needs, refl, refl, refl, sym (taken-none (args .b) all), refl, sym (overlay-none (args .sheet .now) 0))
+
+slice-aggregate-fill : tie.Need-slice-aggregate-fill Inv-loop μ-loop
+slice-aggregate-fill c = search needs
+
+fill-requires : tie.Need-fill-requires Inv-loop μ-loop
+fill-requires c κs =
+    let inside = c .before in
+    let at-loop = inside .before in
+    let start = at-loop .before .before .before .before in
+    let args = start .args in
+    let pre = start .pre in
+    let inv = at-loop .loop .inv in
+    let ready = ready-after (args .h) (args .m) (args .c) (args .stamps .now) (barsOf (args .prices .now)) (at-loop .loop .done) (pre .1) (pre .0) in
+    (rw (inv .3) ready, omega arith, pre .1, omega arith)
+
+slice-aggregate-feed-front : tie.Need-slice-aggregate-feed-front Inv-loop μ-loop
+slice-aggregate-feed-front c = search needs
+
+feed-front-requires : tie.Need-feed-front-requires Inv-loop μ-loop
+feed-front-requires c κs =
+    let filled = c .before .before .before in
+    let inside = filled .before .before in
+    let at-loop = inside .before in
+    let start = at-loop .before .before .before .before in
+    let args = start .args in
+    let pre = start .pre in
+    let inv = at-loop .loop .inv in
+    let passed = at-loop .loop .done in
+    let es = minutesOf (args .stamps .now) (barsOf (args .prices .now)) in
+    let old = endedOf (args .h) (args .m) (args .c) (take passed es) in
+    let f = filled .fill .result in
+    let by : FilledBy (args .h) (args .m) (carriedOf (args .h) (args .m) (args .c) (take passed es)) (drop passed es) (filled .fill .last .1 .1 .1 .1 .1 .1 .0) f = rw (inv .3) at (filled .fill .ensures) in
+    let new = endedOf (args .h) (args .m) (carriedOf (args .h) (args .m) (args .c) (take passed es)) (take (f .passed) (drop passed es)) in
+    let both-are = ended-more (args .h) (args .m) (args .c) es passed (f .passed) in
+    let both-few = ended-few (args .h) (args .m) (args .c) (take (passed + f .passed) es) in
+    let some = length-take (passed + f .passed) es in
+    let total = length-minutes (args .stamps .now) (barsOf (args .prices .now)) (pre .1) in
+    let four = length-bars (args .prices .now) in
+    let sum : length old + length new ≤ length (args .prices .now) / 4 = omega (arith, length-append old new, ap length both-are) in
+    let count = by .count in
+    let bound = fits _ _ _ _ (pre .2) in
+    let left = length-drop passed es in
+    let within = by .within in
+    let turn : passed < length (args .stamps .now) = inside .loop-test .taken in
+    let progressed = by .some (omega arith) in
+    let size = filled .fill .kept .1 .1 .1 .1 .1 .1 .0 in
+    let room = some-room _ _ _ _ (pre .2) (length old) (f .count) (omega arith) in
+    (rw (inv .4) (some-accepted _ _ _ _ (pre .2) (length old) (f .count) (omega arith)), (omega (arith, by .few), omega arith))
+
+add-rows : tie.Need-add-rows Inv-loop μ-loop
+add-rows c =
+    let filled = c .before .before .before .before .before .before .before .before in
+    let inside = filled .before .before in
+    let at-loop = inside .before in
+    let start = at-loop .before .before .before .before in
+    let args = start .args in
+    let pre = start .pre in
+    let inv = at-loop .loop .inv in
+    let passed = at-loop .loop .done in
+    let es = minutesOf (args .stamps .now) (barsOf (args .prices .now)) in
+    let old = endedOf (args .h) (args .m) (args .c) (take passed es) in
+    let f = filled .fill .result in
+    let by : FilledBy (args .h) (args .m) (carriedOf (args .h) (args .m) (args .c) (take passed es)) (drop passed es) (filled .fill .last .1 .1 .1 .1 .1 .1 .0) f = rw (inv .3) at (filled .fill .ensures) in
+    let new = endedOf (args .h) (args .m) (carriedOf (args .h) (args .m) (args .c) (take passed es)) (take (f .passed) (drop passed es)) in
+    let both-are = ended-more (args .h) (args .m) (args .c) es passed (f .passed) in
+    let both-few = ended-few (args .h) (args .m) (args .c) (take (passed + f .passed) es) in
+    let some = length-take (passed + f .passed) es in
+    let total = length-minutes (args .stamps .now) (barsOf (args .prices .now)) (pre .1) in
+    let four = length-bars (args .prices .now) in
+    let sum : length old + length new ≤ length (args .prices .now) / 4 = omega (arith, length-append old new, ap length both-are) in
+    let count = by .count in
+    let bound = fits _ _ _ _ (pre .2) in
+    let left = length-drop passed es in
+    let within = by .within in
+    let turn : passed < length (args .stamps .now) = inside .loop-test .taken in
+    let progressed = by .some (omega arith) in
+    omega arith
+
+add-done : tie.Need-add-done Inv-loop μ-loop
+add-done c =
+    let filled = c .before .before .before .before .before .before .before .before .before in
+    let inside = filled .before .before in
+    let at-loop = inside .before in
+    let start = at-loop .before .before .before .before in
+    let args = start .args in
+    let pre = start .pre in
+    let inv = at-loop .loop .inv in
+    let passed = at-loop .loop .done in
+    let es = minutesOf (args .stamps .now) (barsOf (args .prices .now)) in
+    let old = endedOf (args .h) (args .m) (args .c) (take passed es) in
+    let f = filled .fill .result in
+    let by : FilledBy (args .h) (args .m) (carriedOf (args .h) (args .m) (args .c) (take passed es)) (drop passed es) (filled .fill .last .1 .1 .1 .1 .1 .1 .0) f = rw (inv .3) at (filled .fill .ensures) in
+    let new = endedOf (args .h) (args .m) (carriedOf (args .h) (args .m) (args .c) (take passed es)) (take (f .passed) (drop passed es)) in
+    let both-are = ended-more (args .h) (args .m) (args .c) es passed (f .passed) in
+    let both-few = ended-few (args .h) (args .m) (args .c) (take (passed + f .passed) es) in
+    let some = length-take (passed + f .passed) es in
+    let total = length-minutes (args .stamps .now) (barsOf (args .prices .now)) (pre .1) in
+    let four = length-bars (args .prices .now) in
+    let sum : length old + length new ≤ length (args .prices .now) / 4 = omega (arith, length-append old new, ap length both-are) in
+    let count = by .count in
+    let bound = fits _ _ _ _ (pre .2) in
+    let left = length-drop passed es in
+    let within = by .within in
+    let turn : passed < length (args .stamps .now) = inside .loop-test .taken in
+    let progressed = by .some (omega arith) in
+    omega arith
+
+loop-less : tie.Need-loop-less Inv-loop μ-loop
+loop-less c =
+    let filled = c .before .before .before .before .before .before .before .before .before in
+    let inside = filled .before .before in
+    let at-loop = inside .before in
+    let start = at-loop .before .before .before .before in
+    let args = start .args in
+    let pre = start .pre in
+    let inv = at-loop .loop .inv in
+    let passed = at-loop .loop .done in
+    let es = minutesOf (args .stamps .now) (barsOf (args .prices .now)) in
+    let old = endedOf (args .h) (args .m) (args .c) (take passed es) in
+    let f = filled .fill .result in
+    let by : FilledBy (args .h) (args .m) (carriedOf (args .h) (args .m) (args .c) (take passed es)) (drop passed es) (filled .fill .last .1 .1 .1 .1 .1 .1 .0) f = rw (inv .3) at (filled .fill .ensures) in
+    let new = endedOf (args .h) (args .m) (carriedOf (args .h) (args .m) (args .c) (take passed es)) (take (f .passed) (drop passed es)) in
+    let both-are = ended-more (args .h) (args .m) (args .c) es passed (f .passed) in
+    let both-few = ended-few (args .h) (args .m) (args .c) (take (passed + f .passed) es) in
+    let some = length-take (passed + f .passed) es in
+    let total = length-minutes (args .stamps .now) (barsOf (args .prices .now)) (pre .1) in
+    let four = length-bars (args .prices .now) in
+    let sum : length old + length new ≤ length (args .prices .now) / 4 = omega (arith, length-append old new, ap length both-are) in
+    let count = by .count in
+    let bound = fits _ _ _ _ (pre .2) in
+    let left = length-drop passed es in
+    let within = by .within in
+    let turn : passed < length (args .stamps .now) = inside .loop-test .taken in
+    let progressed = by .some (omega arith) in
+    omega arith
+
+loop-again : tie.Need-loop-again Inv-loop μ-loop
+loop-again c =
+    let filled = c .before .before .before .before .before .before .before .before .before in
+    let inside = filled .before .before in
+    let at-loop = inside .before in
+    let start = at-loop .before .before .before .before in
+    let args = start .args in
+    let pre = start .pre in
+    let inv = at-loop .loop .inv in
+    let passed = at-loop .loop .done in
+    let es = minutesOf (args .stamps .now) (barsOf (args .prices .now)) in
+    let old = endedOf (args .h) (args .m) (args .c) (take passed es) in
+    let f = filled .fill .result in
+    let by : FilledBy (args .h) (args .m) (carriedOf (args .h) (args .m) (args .c) (take passed es)) (drop passed es) (filled .fill .last .1 .1 .1 .1 .1 .1 .0) f = rw (inv .3) at (filled .fill .ensures) in
+    let new = endedOf (args .h) (args .m) (carriedOf (args .h) (args .m) (args .c) (take passed es)) (take (f .passed) (drop passed es)) in
+    let both-are = ended-more (args .h) (args .m) (args .c) es passed (f .passed) in
+    let both-few = ended-few (args .h) (args .m) (args .c) (take (passed + f .passed) es) in
+    let some = length-take (passed + f .passed) es in
+    let total = length-minutes (args .stamps .now) (barsOf (args .prices .now)) (pre .1) in
+    let four = length-bars (args .prices .now) in
+    let sum : length old + length new ≤ length (args .prices .now) / 4 = omega (arith, length-append old new, ap length both-are) in
+    let count = by .count in
+    let bound = fits _ _ _ _ (pre .2) in
+    let left = length-drop passed es in
+    let within = by .within in
+    let turn : passed < length (args .stamps .now) = inside .loop-test .taken in
+    let progressed = by .some (omega arith) in
+    let fed = c .before .before .before .before .before in
+    let b = args .b in
+    let all : length (b .bars) ≡ 64 = simp length-map at (start .good .1 .1 .1 .0 .1 .1 .1 .1 .0 .1 .0 .1) in
+    let front = ap barsOf (by .prices) ∙ bars-prices new in
+    let room = some-room _ _ _ _ (pre .2) (length old) (length new) sum in (
+      omega arith,
+      fed .feed-front .kept .1 .1 .1 .0 ∙ inv .1,
+      filled .fill .kept .1 .1 .1 .1 .1 .1 .0 ∙ inv .2,
+      by .carried ∙ sym (carried-more (args .h) (args .m) (args .c) es passed (f .passed)),
+      fed .feed-front .ensures .0 ∙ rw (front, inv .4, both-are) (taken-append b all old new),
+      rw (both-are, length-append, by .count, inv .5),
+      fed .feed-front .ensures .1 ∙ rw (front, inv .4, inv .6, both-are) (rows-both b all old new (args .sheet .now) (at-loop .loop .rows) (inv .5) room),
+    )
+
+same-length : tie.Need-same-length Inv-loop μ-loop
+same-length c = search needs
+
+returns : tie.Need-returns Inv-loop μ-loop
+returns c =
+    let at-loop = c .before in
+    let start = at-loop .before .before .before .before in
+    let args = start .args in
+    let pre = start .pre in
+    let inv = at-loop .loop .inv in
+    let passed = at-loop .loop .done in
+    let es = minutesOf (args .stamps .now) (barsOf (args .prices .now)) in
+    let total = length-minutes (args .stamps .now) (barsOf (args .prices .now)) (pre .1) in
+    let whole : take passed es ≡ es = take-all passed es (omega arith) in
+    (rw (inv .3, inv .4, inv .5, whole), inv .6 ∙ rw whole)
+
+pub take-bars-spec : {M : Type 1} → statement M
+take-bars-spec =
+    tie.close
+    (tie.spec
+    Inv-loop
+    μ-loop
+    loop-holds
+    slice-aggregate-fill
+    fill-requires
+    slice-aggregate-feed-front
+    feed-front-requires
+    add-rows
+    add-done
+    loop-less
+    loop-again
+    same-length
+    returns)

@@ -1,0 +1,20 @@
+-- A stamp goes on in the last one's term exactly if it lies before its end. Assumes nothing.
+use mathlib.Core.Path.{_≡_, refl, ap, sym, _∙_}
+use Rattle.terms.specs.Events.{stepOf}
+use Rattle.terms.proofs.PassingLaws.{end-goes-on}
+use borrow.Author.Needs.{needs}
+use Rattle.terms.proofs.events.step_on.Statement.{statement}
+use Rattle.terms.proofs.events.step_on.Tie as tie
+
+step-by-requires : tie.Need-step-by-requires
+step-by-requires c κs = search needs
+
+returns : tie.Need-returns
+unfolding stepOf
+returns c =
+    let args = c .before .args in
+    let pre = c .before .pre in
+    c .step-by .ensures ∙ rw (end-goes-on (args .h) (args .m) (args .end) (args .stamp) (args .c .last) (pre .0) (pre .1 .0) (pre .1 .1))
+
+pub step-on-spec : {M : Type 1} → statement M
+step-on-spec = tie.close (tie.spec step-by-requires returns)

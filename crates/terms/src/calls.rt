@@ -1,0 +1,219 @@
+// Making, a run of bars and a close.
+ghost use mathlib.Core.Path.{_≡_};
+ghost use Prim.Native.Nat.{_+_, _*_, _≤_};
+ghost use lib.ListN.{length, take};
+ghost use Rattle.measures.specs.Bar.{barsOf};
+ghost use Rattle.recognisers.specs.declared.call.Verdict.the-variants.{Accepted, Denied};
+ghost use Rattle.bar_box.specs.Sheet.{rowsOf, overlay};
+ghost use Rattle.bar_box.specs.Box.{kept, takenIn, feedVerdict, leaves};
+ghost use Rattle.terms.specs.Events.{endedOf, minutesOf};
+ghost use Rattle.terms.specs.Layer.{standardLayer, taken, madeOf, ranOf, ranSheet, closedOf, closedSheet};
+ghost use Rattle.terms.specs.Passing.{Ready, progressOf};
+use crate::events;
+use crate::events::Carried;
+use crate::events::LastStamp;
+use crate::events::OpenBar;
+use crate::layers;
+use crate::layers::Layer;
+use crate::layers::Taken;
+use crate::verdicts;
+use bar_box::BarBox;
+use recognisers::Thresholds;
+use recognisers::call::Refusal;
+use recognisers::call::Verdict;
+use recognisers::counts::ROW_BYTES;
+use trading_hours::Hours;
+use trading_hours::hours;
+
+// Feeds the first n bars of a run of prices; their rows go to a row of the sheet and those after it.
+fn feed_front(b: BarBox, run: &[f64], n: usize, sheet: &mut [u8], row: usize) -> BarBox
+    requires { ⌜ (feedVerdict (b .thresholds) (b .count) (4 * n) (36 * n) ≡ Accepted) × ((4 * n ≤ length (now run)) × (36 * (row + n) ≤ length (now sheet))) ⌝ }
+    ensures { λ r. ⌜ (r ≡ takenIn b (barsOf (take (4 * n) (now (run .entry))))) × (now (sheet .exit) ≡ overlay (now (sheet .entry)) (36 * row) (rowsOf (b .thresholds) (b .count) (kept b) (barsOf (take (4 * n) (now (run .entry)))))) ⌝ }
+{
+    if n == 0 {
+        return b;
+    }
+    let end = 4 * n;
+    let at = ROW_BYTES * row;
+    let out = bar_box::feed(b, &run[..end], &mut sheet[at..]);
+    out.after
+}
+
+// What is carried on, the box, and how many rows were filled.
+pub struct Progress {
+    pub inner: BarBox,
+    pub carried: Carried,
+    pub rows: usize,
+}
+
+// Takes the bars of a run in: the term bars that end are fed to the box, up to 32 at a time, since each feed copies it; their rows stand one
+// after the other.
+fn take_bars(
+    b: BarBox,
+    h: Hours,
+    m: u32,
+    c: Carried,
+    prices: &[f64],
+    stamps: &[u32],
+    sheet: &mut [u8],
+) -> Progress
+    requires { ⌜ (Ready h m c (now stamps)) × (length (now stamps) ≡ length (barsOf (now prices))) × (feedVerdict (b .thresholds) (b .count) (length (now prices)) (length (now sheet)) ≡ Accepted) ⌝ }
+    ensures { λ r. ⌜ (r ≡ progressOf h m c b (minutesOf (now (stamps .entry)) (barsOf (now (prices .entry)))))
+        × (now (sheet .exit) ≡ overlay (now (sheet .entry)) 0 (rowsOf (b .thresholds) (b .count) (kept b) (endedOf h m c (minutesOf (now (stamps .entry)) (barsOf (now (prices .entry))))))) ⌝ }
+{
+    // room for 32 bars
+    let mut run = [0.0; 128];
+    let n = stamps.len();
+    let mut carried = c;
+    let mut inner = b;
+    let mut rows = 0usize;
+    let mut done = 0usize;
+    while done < n {
+        let f = events::fill(h, m, carried, prices, stamps, done, &mut run);
+        inner = feed_front(inner, &run, f.count, sheet, rows);
+        let next = f.carried;
+        carried = next;
+        rows += f.count;
+        done += f.passed;
+    }
+    Progress {
+        inner,
+        carried,
+        rows,
+    }
+}
+
+// How many of the lent bars are taken in: all, or none if the run is refused.
+fn accepted(v: Verdict, n: usize) -> usize
+    ensures { λ r. ⌜ r ≡ leaves v 0 n ⌝ }
+{
+    match v {
+        Verdict::Accepted => n,
+        Verdict::Denied(_) => 0,
+    }
+}
+
+// Takes a run of bars in, one stamp a bar, and writes a row for each term bar that ended, or refuses and leaves layer and sheet as they
+// were: a refused run takes no bar. Where no term bar ends the box is copied once.
+pub fn run(l: Layer, prices: &[f64], stamps: &[u32], sheet: &mut [u8]) -> Taken
+    ensures { λ r. ⌜ (r ≡ ranOf l (now (prices .entry)) (now (stamps .entry)) (length (now (sheet .entry))))
+        × (now (sheet .exit) ≡ ranSheet l (now (prices .entry)) (now (stamps .entry)) (now (sheet .entry))) ⌝ }
+{
+    let h = l.hours;
+    let m = l.minutes;
+    let c = l.carried;
+    let verdict = verdicts::run_verdict(
+        l.inner.thresholds,
+        h,
+        m,
+        c,
+        l.inner.count,
+        prices.len(),
+        stamps,
+        sheet.len(),
+    );
+    let n = accepted(verdict, stamps.len());
+    let front = events::join_front(h, m, c, prices, stamps, n);
+    let carried = front.carried;
+    if front.passed == n {
+        let mut after = l;
+        after.carried = carried;
+        return Taken {
+            after,
+            rows: 0,
+            verdict,
+        };
+    }
+    let first = 4 * front.passed;
+    let from = front.passed;
+    let b = l.inner;
+    let p = take_bars(b, h, m, carried, &prices[first..], &stamps[from..], sheet);
+    let inner = p.inner;
+    let left = p.carried;
+    Taken {
+        after: Layer {
+            inner,
+            carried: left,
+            hours: h,
+            minutes: m,
+        },
+        rows: p.rows,
+        verdict,
+    }
+}
+
+// Ends the open term, if there is one, and writes its bar's row, or refuses and leaves layer and sheet as they were.
+pub fn close(l: Layer, sheet: &mut [u8]) -> Taken
+    ensures { λ r. ⌜ (r ≡ closedOf l (length (now (sheet .entry)))) × (now (sheet .exit) ≡ closedSheet l (now (sheet .entry))) ⌝ }
+{
+    let h = l.hours;
+    let m = l.minutes;
+    let c = l.carried;
+    let b = l.inner;
+    match verdicts::close_verdict(b.thresholds, h, m, c, b.count, sheet.len()) {
+        Verdict::Denied(why) => Taken {
+            after: l,
+            rows: 0,
+            verdict: Verdict::Denied(why),
+        },
+        Verdict::Accepted => {
+            let mut run = [0.0; 4];
+            let last = c.last;
+            let pending = c.pending;
+            let rows = events::put_ended(pending, &mut run, 0);
+            let inner = feed_front(b, &run, rows, sheet, 0);
+            Taken {
+                after: Layer {
+                    inner,
+                    carried: Carried {
+                        last,
+                        pending: OpenBar::Nothing,
+                    },
+                    hours: h,
+                    minutes: m,
+                },
+                rows,
+                verdict: Verdict::Accepted,
+            }
+        }
+    }
+}
+
+// A refused making.
+fn refuse_making(why: Refusal) -> Taken
+    ensures { λ r. ⌜ r ≡ taken (Denied why) 0 standardLayer ⌝ }
+{
+    let made = bar_box::make(Thresholds::standard());
+    let inner = made.after;
+    Taken {
+        after: layers::fresh(layers::whole_day(), 5, inner),
+        rows: 0,
+        verdict: Verdict::Denied(why),
+    }
+}
+
+// A fresh layer with these thresholds, hours and term length, and zeros in the unused places of the hours; if they are refused, one with
+// the standard set, the whole day and 5.
+pub fn make(t: Thresholds, h: Hours, m: u32) -> Taken
+    ensures { λ r. ⌜ r ≡ madeOf t h m ⌝ }
+{
+    let valid = t.is_valid();
+    if !valid {
+        return refuse_making(Refusal::BadThreshold);
+    }
+    let none = Carried {
+        last: LastStamp::Never,
+        pending: OpenBar::Nothing,
+    };
+    let whole = verdicts::layer_valid(h, m, none);
+    if !whole {
+        return refuse_making(Refusal::BadLayer);
+    }
+    let made = bar_box::make(t);
+    let inner = made.after;
+    Taken {
+        after: layers::fresh(hours::with_zeros(h), m, inner),
+        rows: 0,
+        verdict: Verdict::Accepted,
+    }
+}

@@ -1,0 +1,95 @@
+-- The loop's invariant: the windows passed don't have the minute. Assumes nothing.
+use Prim.Native.Nat.{_+_, _-_, _≤_, _<_}
+use mathlib.Core.Path.{_≡_, refl, sym, _∙_}
+use native.Mathlib.Omega.{arith}
+use native.Mathlib.Nat.{zero-add}
+use borrow.Author.Needs.{needs}
+use lib.ListN.{length, take, drop, getD}
+use lib.Seq.{getD-take, length-take-le}
+use Rattle.trading_hours.specs.Hours.{placeOf, noWindow}
+use Rattle.trading_hours.proofs.HourLaws.{place-next, place-found, place-past}
+use Rattle.trading_hours.proofs.hours.place_in.Statement.{statement}
+use Rattle.trading_hours.proofs.hours.place_in.Tie as tie
+
+abbrev Inv-loop : tie.InvT-loop
+Inv-loop n minute windows i₀ i = (i ≤ n) × (placeOf (take n windows) minute ≡ i + placeOf (drop i (take n windows)) minute)
+
+abbrev μ-loop : tie.MeasureT-loop
+μ-loop n minute windows i₀ i = n - i
+
+loop-holds : tie.Need-loop-holds Inv-loop μ-loop
+loop-holds c = (search needs, sym (zero-add _))
+
+mul-w : tie.Need-mul-w Inv-loop μ-loop
+mul-w c = search needs
+
+array-copy-out-w : tie.Need-array-copy-out-w Inv-loop μ-loop
+array-copy-out-w c = search needs
+
+returns : tie.Need-returns Inv-loop μ-loop
+returns c =
+    let inside = c .before .before .before .before in
+    let at-loop = inside .before in
+    let start = at-loop .before in
+    let windows = start .args .t1 in
+    let n = start .args .n in
+    let i = at-loop .loop .i in
+    let pre = start .pre in
+    let full : length windows ≡ 4 = start .good .0 .1 .0 .1 in
+    let within : i < n = inside .loop-test .taken in
+    let size = length-take-le n windows (omega arith) in
+    let test = rw (← getD-take n windows i noWindow within) at (c .if1 .taken) in
+    let found = place-found (take n windows) i (start .args .minute) (omega arith) test in
+    let inv = at-loop .loop .inv .1 in
+    omega arith
+
+add-i : tie.Need-add-i Inv-loop μ-loop
+add-i c = search needs
+
+loop-less : tie.Need-loop-less Inv-loop μ-loop
+loop-less c = search needs
+
+loop-again : tie.Need-loop-again Inv-loop μ-loop
+loop-again c =
+    let inside = c .before .before .before .before in
+    let at-loop = inside .before in
+    let start = at-loop .before in
+    let windows = start .args .t1 in
+    let n = start .args .n in
+    let i = at-loop .loop .i in
+    let pre = start .pre in
+    let full : length windows ≡ 4 = start .good .0 .1 .0 .1 in
+    let within : i < n = inside .loop-test .taken in
+    let size = length-take-le n windows (omega arith) in
+    let test = rw (← getD-take n windows i noWindow within) at (c .if1 .left) in
+    let next = place-next (take n windows) i (start .args .minute) (omega arith) test in
+    let inv = at-loop .loop .inv .1 in
+    (search needs, omega arith)
+
+returns-2 : tie.Need-returns-2 Inv-loop μ-loop
+returns-2 c =
+    let at-loop = c .before in
+    let start = at-loop .before in
+    let windows = start .args .t1 in
+    let n = start .args .n in
+    let pre = start .pre in
+    let full : length windows ≡ 4 = start .good .0 .1 .0 .1 in
+    let size = length-take-le n windows (omega arith) in
+    let past = place-past (take n windows) (at-loop .loop .i) (start .args .minute) (omega arith) in
+    let inv = at-loop .loop .inv in
+    omega arith
+
+pub place-in-spec : {M : Type 1} → statement M
+place-in-spec =
+    tie.close
+    (tie.spec
+    Inv-loop
+    μ-loop
+    loop-holds
+    mul-w
+    array-copy-out-w
+    returns
+    add-i
+    loop-less
+    loop-again
+    returns-2)

@@ -1,0 +1,3 @@
+-- Opening hours and terms of the trading day as definitions.
+pub mod Hours
+pub mod TermRule
