@@ -4,6 +4,7 @@ use mathlib.Core.Path.{_≡_, refl, ap, sym, _∙_}
 use mathlib.Core.Bool.{Bool, true, false, _&&_}
 use mathlib.Core.List.{List, [], _∷_, _++_, append-assoc, append-nil}
 use native.Mathlib.Omega.{arith}
+use native.Mathlib.Nat.{zero-add}
 use native.Mathlib.Numerals.{add-one}
 use lib.ListN.{length, getD, take, drop, length-append, length-drop}
 use lib.Seq.{take-suc, take-add, getD-drop}
@@ -16,6 +17,7 @@ use Rattle.terms.specs.declared.events.OpenBar.{OpenBar}
 use Rattle.terms.specs.declared.events.OpenBar.the-variants.{Nothing, Begun}
 use Rattle.terms.specs.declared.events.Carried.{Carried}
 use Rattle.terms.specs.Events.{Event, Minute, Close, barsIn, endedAt, carriedAt, endedOf, carriedOf, lastOf, minutesOf, stepOf}
+use Rattle.terms.specs.Passing.{someIn}
 
 module _ (h : Hours) (m : ℕ) where
   -- ---- one list after the other
@@ -107,6 +109,21 @@ module _ (h : Hours) (m : ℕ) (c : Carried) (ss : List ℕ) (bars : List Bar) (
   carried-next =
       let e = Minute (getD ss (from + k) 0) (getD bars (from + k) noBar) in
       rw (next-minute ss bars from k within each, carried-append h m c (take k events) (e ∷ []), carried-one h m (carriedOf h m c (take k events)) e)
+
+-- from the first on
+module _ (h : Hours) (m : ℕ) (c : Carried) (ss : List ℕ) (bars : List Bar) (k : ℕ) (within : k < length ss) (each : length ss ≡ length bars) where
+  abbrev front : Step
+  front = stepOf h m (carriedOf h m c (take k (minutesOf ss bars))) (getD ss k 0) (getD bars k noBar)
+
+  pub ended-front : endedOf h m c (take (k + 1) (minutesOf ss bars)) ≡ endedOf h m c (take k (minutesOf ss bars)) ++ barsIn (front .ended)
+  ended-front = rw (zero-add k) at (ended-next h m c ss bars 0 k (rw (zero-add k) within) each)
+
+  pub carried-front : carriedOf h m c (take (k + 1) (minutesOf ss bars)) ≡ front .carried
+  carried-front = rw (zero-add k) at (carried-next h m c ss bars 0 k (rw (zero-add k) within) each)
+
+pub none-in : (p : OpenBar) → someIn p ≡ false → barsIn p ≡ []
+none-in Nothing e = refl
+none-in (Begun b) e = cc
 
 -- a loop that stops where no bar is left or 32 term bars ended has passed some bar, if there was one
 pub passed-some : (k n count : ℕ) → (ltb k n && ltb count 32) ≡ false → count ≤ k → 1 ≤ n → 1 ≤ k

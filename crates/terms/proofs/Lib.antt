@@ -4,5 +4,6 @@ pub mod TermBarLaws
 pub mod FeedLaws
 pub mod CallLaws
 pub mod PassingLaws
+pub mod TakeLaws
 pub mod CallSteps
 pub mod TermCalls

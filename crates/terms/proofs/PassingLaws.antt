@@ -4,6 +4,7 @@ use mathlib.Core.Path.{_≡_, refl, ap, sym, _∙_}
 use mathlib.Core.Bool.{Bool, true, false, _&&_}
 use mathlib.Core.List.{List, [], _∷_, _++_}
 use native.Mathlib.Omega.{arith}
+use native.Mathlib.Nat.{zero-add}
 use lib.Dec.{ltb}
 use lib.ListN.{length, getD, take, drop, length-drop}
 use lib.Seq.{drop-cons, getD-drop}
@@ -111,6 +112,12 @@ fill-ready h m c ss bars from k each within ready =
     let d = carriedOf h m c (take k (minutesOf (drop from ss) (drop from bars))) in
     let fit = rw (getD-drop from ss k 0) at (next-fits h (d .last) (drop from ss) k near (r .rising)) in
     rw (minutes-drop from ss bars) (ready-end h m d (drop k (drop from ss)) r, fit)
+
+-- from the first on
+pub front-ready : (h : Hours) (m : ℕ) (c : Carried) (ss : List ℕ) (bars : List Bar) (k : ℕ) → length ss ≡ length bars → k < length ss → Ready h m c ss
+    → let last = carriedOf h m c (take k (minutesOf ss bars)) .last in
+    (EndKnown h m last (endAfter h m last)) × ((above last (getD ss k 0) ≡ true) × (inHours h (getD ss k 0) ≡ true))
+front-ready h m c ss bars k each within ready = rw (zero-add k) at (fill-ready h m c ss bars 0 k each (rw (zero-add k) within) ready)
 
 -- a layer that keeps the rules
 pub layer-end : (h : Hours) (m : ℕ) (c : Carried) → validLayer h m c ≡ true → EndKnown h m (c .last) (endAfter h m (c .last))

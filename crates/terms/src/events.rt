@@ -2,7 +2,7 @@
 ghost use mathlib.Core.Path.{_≡_};
 ghost use mathlib.Core.Bool.{true};
 ghost use Prim.Native.Nat.{_+_, _*_, _≤_};
-ghost use lib.ListN.{length, take, drop};
+ghost use lib.ListN.{length, drop};
 ghost use Rattle.measures.specs.Bar.{barsOf};
 ghost use Rattle.bar_box.specs.Sheet.{overlay};
 ghost use Rattle.bar_box.specs.History.{pricesOf};
@@ -171,7 +171,7 @@ pub(crate) fn join_front(
     n: usize,
 ) -> Front
     requires { ⌜ (n ≤ length (now stamps)) × (1 ≤ n → (Ready h m c (now stamps)) × (length (now stamps) ≡ length (barsOf (now prices)))) ⌝ }
-    ensures { λ r. ⌜ JoinedBy h m c (take n (minutesOf (now (stamps .entry)) (barsOf (now (prices .entry))))) n r ⌝ }
+    ensures { λ r. ⌜ JoinedBy h m c (minutesOf (now (stamps .entry)) (barsOf (now (prices .entry)))) n r ⌝ }
 {
     let mut carried = c;
     let before = c.last;

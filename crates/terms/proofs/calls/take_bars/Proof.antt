@@ -34,7 +34,7 @@ unfolding endedOf carriedOf rowsOf
 loop-holds c =
     let start = c .before .before .before in
     let args = start .args in
-    let all : length (args .b .bars) ≡ 64 = simp length-map at (start .good .1 .1 .1 .0 .1 .1 .1 .1 .0 .1 .0 .1) in
+    let all : length (args .b .bars) ≡ 64 = simp length-map at (start .good .0 .1 .1 .1 .1 .0 .1 .0 .1) in
     (search needs, refl, refl, refl, sym (taken-none (args .b) all), refl, sym (overlay-none (args .sheet .now) 0))
 
 slice-aggregate-fill : tie.Need-slice-aggregate-fill Inv-loop μ-loop
@@ -201,7 +201,7 @@ loop-again c =
     let progressed = by .some (omega arith) in
     let fed = c .before .before .before .before .before in
     let b = args .b in
-    let all : length (b .bars) ≡ 64 = simp length-map at (start .good .1 .1 .1 .0 .1 .1 .1 .1 .0 .1 .0 .1) in
+    let all : length (b .bars) ≡ 64 = simp length-map at (start .good .0 .1 .1 .1 .1 .0 .1 .0 .1) in
     let front = ap barsOf (by .prices) ∙ bars-prices new in
     let room = some-room _ _ _ _ (pre .2) (length old) (length new) sum in (
       omega arith,

@@ -1,0 +1,141 @@
+-- What a run takes in: nothing of a refused one; of an accepted one first the bars that end no term bar, and then the others. Assumes nothing.
+use Prim.Native.Nat.{ℕ, _+_, _-_, _*_, _≤_, _<_}
+use mathlib.Core.Path.{_≡_, refl, ap, sym, _∙_}
+use mathlib.Core.List.{List, [], _++_}
+use native.Mathlib.Omega.{arith}
+use lib.ListN.{length, take, drop, length-drop, take-append-drop}
+use lib.Seq.{take-all}
+use lib.Ieee.{Float}
+use Rattle.measures.specs.Bar.{Bar, barsOf}
+use Rattle.measures.proofs.RunLaws.{length-bars, bars-drop}
+use Rattle.recognisers.specs.Number.{places}
+use Rattle.recognisers.specs.declared.call.Verdict.{Verdict}
+use Rattle.recognisers.specs.declared.call.Verdict.the-variants.{Accepted, Denied}
+use Rattle.bar_box.specs.Sheet.{rowsOf, overlay}
+use Rattle.bar_box.specs.Box.{takenIn, leaves, feedVerdict}
+use Rattle.bar_box.specs.History.{pricesOf}
+use Rattle.bar_box.proofs.Overlay.{overlay-none}
+use Rattle.bar_box.proofs.BoxLaws.{taken-none}
+use Rattle.bar_box.proofs.FeedSteps.{fits, accepts}
+use Rattle.bar_box.proofs.PartLaws.{rowsFrom}
+use Rattle.trading_hours.specs.declared.hours.Hours.{Hours}
+use Rattle.trading_hours.proofs.HourLaws.{term-some}
+use Rattle.terms.specs.declared.events.Carried.{Carried}
+use Rattle.terms.specs.declared.layers.Layer.{Layer}
+use Rattle.terms.specs.Events.{Event, endedOf, carriedOf, minutesOf}
+use Rattle.terms.specs.Layer.{layerWith, runVerdictOf, endedIn, taken, takenOf, takenSheet, ranOf, ranSheet}
+use Rattle.terms.specs.Passing.{Ready, progressOf}
+use Rattle.terms.proofs.EventLaws.{carried-append, ended-append, ended-few, length-minutes}
+use Rattle.terms.proofs.FeedLaws.{bars-accepted}
+use Rattle.terms.proofs.CallLaws.{run-meets, taken-is, sheet-is}
+use Rattle.terms.proofs.PassingLaws.{minutes-drop, ready-after}
+
+-- a run of which some bar is taken in is accepted
+pub some-taken : (v : Verdict) (n : ℕ) → 1 ≤ leaves v 0 n → v ≡ Accepted
+some-taken Accepted n some = refl
+some-taken (Denied r) n some = absurd (let z : ⊥ = omega arith in z)
+
+module _ (l : Layer) (ps : List Float) (ss sheet : List ℕ) where
+  abbrev h : Hours
+  h = l .hours
+
+  abbrev m : ℕ
+  m = l .minutes
+
+  abbrev events : List Event
+  events = minutesOf ss (barsOf ps)
+
+  abbrev verdict : Verdict
+  verdict = runVerdictOf l (length ps) ss (length sheet)
+
+  -- ---- an accepted one
+
+  module _ (e : verdict ≡ Accepted) where
+    pub one-each : length ss ≡ length (barsOf ps)
+    one-each = run-meets _ _ _ _ _ _ _ _ e .one-each ∙ sym (length-bars ps)
+
+    pub run-ready : Ready h m (l .carried) ss
+    run-ready =
+        let met = run-meets _ _ _ _ _ _ _ _ e in
+        record { some = term-some _ (met .layer .minutes); valid = met .layer .hours; sound = met .layer .carried; rising = met .rising }
+
+    -- there are the prices of as many bars as there are stamps
+    pub bars-prices-are : (k : ℕ) → k ≤ length ss → 4 * k ≤ length ps
+    bars-prices-are k le = omega (arith, one-each, length-bars ps)
+
+    -- the box's own feed is not refused
+    run-feed : feedVerdict (l .inner .thresholds) (l .inner .count) (length (pricesOf (endedIn l events))) (length sheet) ≡ Accepted
+    run-feed =
+        let met = run-meets _ _ _ _ _ _ _ _ e in
+        let each = met .one-each in
+        let total = length-minutes ss (barsOf ps) one-each in
+        let few = ended-few h m (l .carried) events in
+        bars-accepted _ _ _ _ (met .feed) (endedIn l events) (omega arith)
+
+    -- what it leaves
+    ran-is : taken Accepted (length (endedIn l events)) (layerWith h m (carriedOf h m (l .carried) events) (takenIn (l .inner) (endedIn l events))) ≡ ranOf l ps ss (length sheet)
+    unfolding ranOf
+    ran-is = taken-is l events sheet run-feed ∙ ap (λ (v : Verdict). takenOf v l events (length sheet)) (sym e)
+
+    ran-sheet-is : overlay sheet 0 (rowsFrom (l .inner) (endedIn l events)) ≡ ranSheet l ps ss sheet
+    unfolding ranSheet
+    ran-sheet-is = sym (sheet-is l events sheet run-feed) ∙ ap (λ (v : Verdict). takenSheet v l events sheet) (sym e)
+
+    -- after the first k bars, in which no term bar ended
+    module _ (k : ℕ) (more : k < length ss) (none : endedOf h m (l .carried) (take k events) ≡ []) where
+      abbrev mid : Carried
+      mid = carriedOf h m (l .carried) (take k events)
+
+      abbrev later : List Event
+      later = minutesOf (drop k ss) (barsOf (drop (4 * k) ps))
+
+      later-is : later ≡ drop k events
+      later-is = let at : 4 * k ≡ k * 4 = omega arith in rw (at, bars-drop k ps) (sym (minutes-drop k ss (barsOf ps)))
+
+      ended-later : endedOf h m mid later ≡ endedIn l events
+      ended-later =
+          let whole = ended-append h m (l .carried) (take k events) (drop k events) in
+          rw (later-is) (sym (rw (take-append-drop k events, none) at whole))
+
+      carried-later : carriedOf h m mid later ≡ carriedOf h m (l .carried) events
+      carried-later =
+          let whole = carried-append h m (l .carried) (take k events) (drop k events) in
+          rw (later-is) (sym (rw (take-append-drop k events) at whole))
+
+      pub later-ready : Ready h m mid (drop k ss)
+      later-ready = ready-after h m (l .carried) ss (barsOf ps) k one-each run-ready
+
+      pub later-each : length (drop k ss) ≡ length (barsOf (drop (4 * k) ps))
+      later-each = let at : 4 * k ≡ k * 4 = omega arith in rw (at, bars-drop k ps, length-drop, length-drop, one-each)
+
+      pub later-feed : feedVerdict (l .inner .thresholds) (l .inner .count) (length (drop (4 * k) ps)) (length sheet) ≡ Accepted
+      later-feed =
+          let f = fits _ _ _ _ (run-meets _ _ _ _ _ _ _ _ e .feed) in
+          let left = length-drop (4 * k) ps in
+          let each = one-each in
+          let bars = length-bars ps in
+          accepts _ _ _ _ (record { valid = f .valid; whole = omega (arith, f .whole); few = omega (arith, f .few); room = omega (arith, f .room) })
+
+      pub later-ran : let p = progressOf h m mid (l .inner) later in taken Accepted (p .rows) (layerWith h m (p .carried) (p .inner)) ≡ ranOf l ps ss (length sheet)
+      later-ran = rw (ended-later, carried-later) ran-is
+
+      pub later-sheet : overlay sheet 0 (rowsFrom (l .inner) (endedOf h m mid later)) ≡ ranSheet l ps ss sheet
+      later-sheet = rw ended-later ran-sheet-is
+
+  -- ---- one in which no term bar ended, or that is refused
+
+  module _ (all : length (l .inner .bars) ≡ places) where
+    pub quiet-run : (v : Verdict) → verdict ≡ v
+        → let n = leaves v 0 (length ss) in
+        endedOf h m (l .carried) (take n events) ≡ []
+        → (taken v 0 (layerWith h m (carriedOf h m (l .carried) (take n events)) (l .inner)) ≡ ranOf l ps ss (length sheet)) × (sheet ≡ ranSheet l ps ss sheet)
+    unfolding ranOf ranSheet carriedOf rowsOf
+    quiet-run Accepted e none =
+        let total = length-minutes ss (barsOf ps) (one-each e) in
+        let whole = take-all (length ss) events (omega arith) in
+        let quiet : endedIn l events ≡ [] = rw whole at none in
+        let same : taken Accepted 0 (layerWith h m (carriedOf h m (l .carried) events) (l .inner)) ≡ taken Accepted (length (endedIn l events)) (layerWith h m (carriedOf h m (l .carried) events) (takenIn (l .inner) (endedIn l events))) =
+        rw (quiet, taken-none (l .inner) all) in
+        let none-written : overlay sheet 0 (rowsFrom (l .inner) (endedIn l events)) ≡ sheet = rw quiet (overlay-none sheet 0) in
+        (rw whole (same ∙ ran-is e), sym none-written ∙ ran-sheet-is e)
+    quiet-run (Denied r) e none = (rw e, rw e)
