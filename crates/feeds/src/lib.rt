@@ -1,6 +1,8 @@
 // Exports for the benchmark and the comparison: a history in feeds of any sizes to one box, and a look after them, of which one export gives
 // the labels and another the judged bar's ordinal. All is proved,
 // nothing is assumed, and no public function has a `requires`.
+pub mod numbers;
+
 ghost use mathlib.Core.Path.{_≡_};
 ghost use Prim.Native.Nat.{_+_, _*_, _≤_};
 ghost use lib.ListN.{length, take, drop};

@@ -5,15 +5,9 @@ ghost use lib.ListN.{length, getD, take, replicate};
 ghost use Rattle.bar_box.specs.Sheet.{overlay};
 ghost use Rattle.tallies.specs.Tally.{cellOf, gainRow};
 ghost use Rattle.tally_feeds.specs.Numbers.{tallyIn, numbersOf};
+use feeds::numbers::number_at;
 use measures::least;
 use tallies::TallyRow;
-
-// The number at a place, 0 where there is none.
-fn number_at(numbers: &[u32], i: usize) -> u32
-    ensures { λ r. ⌜ r ≡ getD (now (numbers .entry)) i 0 ⌝ }
-{
-    if i < numbers.len() { numbers[i] } else { 0 }
-}
 
 // The row of recogniser k.
 fn row_of(numbers: &[u32], k: usize) -> TallyRow

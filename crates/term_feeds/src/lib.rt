@@ -61,13 +61,16 @@ fn make_calls(
     let mut i = 0usize;
     while i < sizes.len() {
         let size = sizes[i];
+        let n = size as usize;
+        let p_next = least(p + 4 * n, prices.len());
+        let s_next = least(s + n, stamps.len());
         let out = make_call(layer, size, prices, p, stamps, s, sheet, at);
-        numbers::put_answer(out.verdict, out.rows, answers, i);
+        let verdict = out.verdict;
+        numbers::put_answer(verdict, out.rows, answers, i);
         at += ROW_BYTES * out.rows;
         layer = out.after;
-        let n = size as usize;
-        p = least(p + 4 * n, prices.len());
-        s = least(s + n, stamps.len());
+        p = p_next;
+        s = s_next;
         i += 1;
     }
 }

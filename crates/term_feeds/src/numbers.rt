@@ -2,21 +2,15 @@
 ghost use mathlib.Core.List.{[], _∷_};
 ghost use mathlib.Core.Path.{_≡_};
 ghost use Prim.Native.Nat.{_-_, _≤_};
-ghost use lib.ListN.{length, getD, take};
+ghost use lib.ListN.{length, take};
 ghost use Rattle.bar_box.specs.Sheet.{overlay};
 ghost use Rattle.term_feeds.specs.Calls.{windowIn, hoursIn, answerBy};
+use feeds::numbers::number_at;
 use measures::least;
 use recognisers::call::Verdict;
 use recognisers::call::refusal_number;
 use trading_hours::DayWindow;
 use trading_hours::Hours;
-
-// The number at a place, 0 where there is none.
-fn number_at(numbers: &[u32], i: usize) -> u32
-    ensures { λ r. ⌜ r ≡ getD (now (numbers .entry)) i 0 ⌝ }
-{
-    if i < numbers.len() { numbers[i] } else { 0 }
-}
 
 // The i-th window.
 fn window_of(numbers: &[u32], i: usize) -> DayWindow

@@ -14,14 +14,15 @@ use Rattle.measures.proofs.RunLaws.{length-bars}
 use Rattle.recognisers.specs.Threshold.{Thresholds}
 use Rattle.recognisers.specs.declared.call.Verdict.{Verdict}
 use Rattle.recognisers.specs.declared.call.Verdict.the-variants.{Accepted, Denied}
-use Rattle.recognisers.specs.Number.{places, rowBytes}
+use Rattle.recognisers.specs.Number.{places, rowBytes, mostBars}
 use Rattle.bar_box.specs.declared.boxes.BarBox.{BarBox}
 use Rattle.bar_box.specs.Sheet.{before, rowsOf, overlay}
 use Rattle.bar_box.specs.Box.{kept, takenIn, leaves, feedVerdict}
 use Rattle.bar_box.specs.History.{pricesOf, NoBars}
 use Rattle.bar_box.proofs.SheetLaws.{length-rows, rows-newest}
 use Rattle.bar_box.proofs.BoxLaws.{taken-append}
-use Rattle.bar_box.proofs.FeedSteps.{count-after, kept-after}
+use Rattle.bar_box.proofs.PriceLaws.{length-prices}
+use Rattle.bar_box.proofs.FeedSteps.{fits, count-after, kept-after}
 use Rattle.trading_hours.specs.declared.hours.Hours.{Hours}
 use Rattle.terms.specs.declared.events.Carried.{Carried}
 use Rattle.terms.specs.declared.layers.Layer.{Layer}
@@ -65,6 +66,17 @@ call-feed t h m c n (Shut sheet) e =
     let met = close-meets t h m c n (length sheet) e in
     let few = ended-few h m c (Close ∷ []) in
     bars-accepted t n 4 (length sheet) (met .feed) (endedOf h m c (Close ∷ [])) (omega arith)
+
+-- the rows that a call fills are no more than a box may count, and its sheet has room for them
+pub rows-fit : (l : Layer) (x : Call) → (called l x .rows ≤ mostBars) × (rowBytes * called l x .rows ≤ length (sheetIn x))
+rows-fit l x = rw (called-is l x) (go (verdictAt l x) refl)
+  where
+    go : (v : Verdict) → verdictAt l x ≡ v → (leaves v 0 (length (endedIn l (eventsIn x))) ≤ mostBars) × (rowBytes * leaves v 0 (length (endedIn l (eventsIn x))) ≤ length (sheetIn x))
+    go Accepted e =
+        let f = fits _ _ _ _ (call-feed _ _ _ _ _ x e) in
+        let four = length-prices (endedIn l (eventsIn x)) in
+        (omega (arith, f .few), omega (arith, f .room))
+    go (Denied r) e = (omega arith, omega arith)
 
 -- an accepted call carries on what keeps the rules
 call-sound : (t : Thresholds) (h : Hours) (m : ℕ) (c : Carried) (n : ℕ) (x : Call) → verdictBy t (validLayer h m c) h (c .last) n x ≡ Accepted
