@@ -1,30 +1,22 @@
 -- The calls' verdicts: what an accepted run or close meets, the stamps one by one, and what an accepted call leaves. Assumes nothing.
-use Prim.Native.Nat.{ℕ, zero, suc, _+_, _-_, _*_, _/_, _%_, _≤_, _<_}
-use mathlib.Core.Path.{_≡_, refl, ap, sym, _∙_}
-use mathlib.Core.Bool.{Bool, true, false, cond, not, _&&_}
-use mathlib.Core.List.{List, [], _∷_, _++_}
-use native.Mathlib.Omega.{arith}
+use Prim.Native.Nat.{ℕ, _+_, _-_, _/_, _%_, _≤_, _<_}
+use mathlib.Core.Path.{_≡_, refl, _∙_}
+use mathlib.Core.Bool.{Bool, true, false, cond, _&&_}
+use mathlib.Core.List.{List, [], _∷_}
 use native.Mathlib.Numerals.{add-one}
 use borrow.Author.Tests.{not-false, eqb-true, ltb-false}
 use lib.Dec.{eqb}
-use lib.ListN.{length, getD, take, drop, drop-of-length-le}
+use lib.ListN.{length, getD, drop, drop-of-length-le}
 use lib.Seq.{drop-cons}
-use lib.Ieee.{Float}
-use Rattle.measures.specs.Bar.{barsOf}
-use Rattle.measures.proofs.RunLaws.{length-bars}
 use Rattle.recognisers.specs.Threshold.{Thresholds}
 use Rattle.recognisers.specs.declared.call.Refusal.the-variants.{LateStamp, OutsideHours}
-use Rattle.recognisers.specs.declared.call.Verdict.{Verdict}
 use Rattle.recognisers.specs.declared.call.Verdict.the-variants.{Accepted, Denied}
-use Rattle.recognisers.specs.Number.{rowBytes, mostBars}
-use Rattle.recognisers.specs.Threshold.{validOf}
 use Rattle.recognisers.specs.Refusal.{Tried, firstTrue}
-use Rattle.bar_box.specs.declared.boxes.BarBox.{BarBox}
 use Rattle.bar_box.specs.Sheet.{rowsOf, overlay}
 use Rattle.bar_box.specs.Box.{kept, takenIn, feedVerdict, fedOf, sheetOf}
 use Rattle.bar_box.specs.History.{pricesOf}
-use Rattle.bar_box.proofs.PriceLaws.{length-prices, bars-prices}
-use Rattle.bar_box.proofs.FeedSteps.{Fits, fits, accepts}
+use Rattle.bar_box.proofs.PriceLaws.{bars-prices}
+use Rattle.bar_box.proofs.FeedSteps.{accepts}
 use Rattle.trading_hours.specs.declared.hours.Hours.{Hours}
 use Rattle.terms.specs.declared.events.LastStamp.{LastStamp}
 use Rattle.terms.specs.declared.events.LastStamp.the-variants.{Never, At}
@@ -34,7 +26,7 @@ use Rattle.terms.specs.declared.events.OpenBar.the-variants.{Nothing}
 use Rattle.terms.specs.declared.events.Carried.{Carried}
 use Rattle.terms.specs.declared.layers.Layer.{Layer}
 use Rattle.trading_hours.specs.Hours.{inHours, validHours, termLength}
-use Rattle.terms.specs.Events.{Event, Close, stepOf, endedOf, carriedOf, minutesOf}
+use Rattle.terms.specs.Events.{Event, Close, stepOf, carriedOf, minutesOf}
 use Rattle.terms.specs.Layer.{above, stampsTried, soundCarried, validLayer, runTried, closeTried, runVerdict, closeVerdict, endedIn, layerWith, taken, takenOf}
 use Rattle.trading_hours.proofs.HourLaws.{both}
 use Rattle.bar_box.proofs.PartLaws.{fed-box, fed-sheet}

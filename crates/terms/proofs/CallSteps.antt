@@ -1,23 +1,20 @@
 -- One call to the layer that events left, against the same call to the plain list of events: its verdict, the layer after it and the rows that
 -- it gives. Assumes nothing.
-use Prim.Native.Nat.{ℕ, _+_, _*_, _/_, _≤_}
+use Prim.Native.Nat.{ℕ, _+_, _*_, _≤_}
 use mathlib.Core.Path.{_≡_, refl, ap, sym, _∙_}
-use mathlib.Core.List.{List, [], _∷_, _++_, append-nil}
+use mathlib.Core.List.{List, [], _∷_, _++_}
 use native.Mathlib.Omega.{arith}
-use native.Mathlib.Nat.{zero-add}
 use lib.ListN.{length, take, drop}
 use lib.Seq.{take-at}
 use Rattle.measures.specs.Bar.{Bar}
 use Rattle.measures.specs.Bar.{barsOf}
-use Rattle.measures.specs.Window.{newest}
 use Rattle.measures.proofs.RunLaws.{length-bars}
 use Rattle.recognisers.specs.Threshold.{Thresholds}
 use Rattle.recognisers.specs.declared.call.Verdict.{Verdict}
 use Rattle.recognisers.specs.declared.call.Verdict.the-variants.{Accepted, Denied}
 use Rattle.recognisers.specs.Number.{places, rowBytes, mostBars}
-use Rattle.bar_box.specs.declared.boxes.BarBox.{BarBox}
-use Rattle.bar_box.specs.Sheet.{before, rowsOf, overlay}
-use Rattle.bar_box.specs.Box.{kept, takenIn, leaves, feedVerdict}
+use Rattle.bar_box.specs.Sheet.{rowsOf}
+use Rattle.bar_box.specs.Box.{takenIn, leaves, feedVerdict}
 use Rattle.bar_box.specs.History.{pricesOf, NoBars}
 use Rattle.bar_box.proofs.SheetLaws.{length-rows, rows-newest}
 use Rattle.bar_box.proofs.BoxLaws.{taken-append}
@@ -27,12 +24,12 @@ use Rattle.trading_hours.specs.declared.hours.Hours.{Hours}
 use Rattle.terms.specs.declared.events.Carried.{Carried}
 use Rattle.terms.specs.declared.layers.Layer.{Layer}
 use Rattle.terms.specs.declared.layers.Taken.{Taken}
-use Rattle.terms.specs.Events.{Event, Close, nothingYet, barsIn, endedOf, carriedOf, minutesOf}
+use Rattle.terms.specs.Events.{Event, Close, nothingYet, endedOf, carriedOf, minutesOf}
 use Rattle.terms.specs.Layer.{soundCarried, validLayer, layerWith, endedIn, afterEvents, takenOf, takenSheet, ranOf, ranSheet, closedOf, closedSheet}
 use Rattle.terms.specs.History.{Call, Run, Shut, sheetIn, eventsIn, verdictBy, verdictOn, appended, called, sheetAfter, rowsOfCall}
 use mathlib.Core.Bool.{true, _&&_, and-true}
 use Rattle.trading_hours.specs.Hours.{validHours, termLength}
-use Rattle.terms.proofs.EventLaws.{carried-last, carried-append, ended-append, ended-one, ended-few, few-in, length-minutes}
+use Rattle.terms.proofs.EventLaws.{carried-last, carried-append, ended-append, ended-few, length-minutes}
 use Rattle.terms.proofs.FeedLaws.{bars-accepted}
 use Rattle.terms.proofs.CallLaws.{run-meets, close-meets, stamps-sound, close-sound, box-is, sheet-is}
 

@@ -1,6 +1,6 @@
 -- Lists of events: one after the other, how many term bars end in them, and the events of a run. Assumes nothing.
 use Prim.Native.Nat.{ℕ, zero, suc, _+_, _≤_, _<_}
-use mathlib.Core.Path.{_≡_, refl, ap, sym, _∙_}
+use mathlib.Core.Path.{_≡_, refl, sym}
 use mathlib.Core.Bool.{Bool, true, false, _&&_}
 use mathlib.Core.List.{List, [], _∷_, _++_, append-assoc, append-nil}
 use native.Mathlib.Omega.{arith}
@@ -9,15 +9,20 @@ use native.Mathlib.Numerals.{add-one}
 use lib.ListN.{length, getD, take, drop, length-append, length-drop}
 use lib.Seq.{take-suc, take-add, getD-drop}
 use lib.Dec.{ltb}
-use borrow.Author.Tests.{lt-ltb}
+use borrow.Author.Tests.{lt-ltb, ltb-true}
 use Rattle.terms.specs.declared.events.Step.{Step}
 use Rattle.measures.specs.Bar.{Bar, noBar}
 use Rattle.trading_hours.specs.declared.hours.Hours.{Hours}
+use Rattle.trading_hours.proofs.HourLaws.{both}
 use Rattle.terms.specs.declared.events.OpenBar.{OpenBar}
 use Rattle.terms.specs.declared.events.OpenBar.the-variants.{Nothing, Begun}
 use Rattle.terms.specs.declared.events.Carried.{Carried}
 use Rattle.terms.specs.Events.{Event, Minute, Close, barsIn, endedAt, carriedAt, endedOf, carriedOf, lastOf, minutesOf, stepOf}
 use Rattle.terms.specs.Passing.{someIn}
+
+pub few-in : (p : OpenBar) → length (barsIn p) ≤ 1
+few-in Nothing = omega arith
+few-in (Begun b) = omega arith
 
 module _ (h : Hours) (m : ℕ) where
   -- ---- one list after the other
@@ -49,10 +54,6 @@ module _ (h : Hours) (m : ℕ) where
   carried-last c (Close ∷ es) = carried-last (carriedAt h m c Close) es
 
   -- ---- how many end
-
-  pub few-in : (p : OpenBar) → length (barsIn p) ≤ 1
-  few-in Nothing = omega arith
-  few-in (Begun b) = omega arith
 
   few-at : (c : Carried) (e : Event) → length (endedAt h m c e) ≤ 1
   few-at c (Minute s b) = few-in (stepOf h m c s b .ended)
@@ -124,6 +125,10 @@ module _ (h : Hours) (m : ℕ) (c : Carried) (ss : List ℕ) (bars : List Bar) (
 pub none-in : (p : OpenBar) → someIn p ≡ false → barsIn p ≡ []
 none-in Nothing e = refl
 none-in (Begun b) e = cc
+
+-- a loop's turn: a bar is left, and fewer than 32 term bars ended
+pub turn-of : (k n count : ℕ) → (ltb k n && ltb count 32) ≡ true → (k < n) × (count < 32)
+turn-of k n count e = let each = both (ltb k n) (ltb count 32) e in (ltb-true k n (each .0), ltb-true count 32 (each .1))
 
 -- a loop that stops where no bar is left or 32 term bars ended has passed some bar, if there was one
 pub passed-some : (k n count : ℕ) → (ltb k n && ltb count 32) ≡ false → count ≤ k → 1 ≤ n → 1 ≤ k

@@ -3,6 +3,7 @@ pub mod EventLaws
 pub mod TermBarLaws
 pub mod FeedLaws
 pub mod CallLaws
+pub mod PartLaws
 pub mod PassingLaws
 pub mod TakeLaws
 pub mod CallSteps

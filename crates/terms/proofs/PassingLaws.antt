@@ -1,8 +1,8 @@
 -- Stamps that a run isn't refused for, one after the other, with the end of the last one's term. Assumes nothing.
 use Prim.Native.Nat.{ℕ, zero, suc, _+_, _<_}
-use mathlib.Core.Path.{_≡_, refl, ap, sym, _∙_}
-use mathlib.Core.Bool.{Bool, true, false, _&&_}
-use mathlib.Core.List.{List, [], _∷_, _++_}
+use mathlib.Core.Path.{_≡_, refl, sym, _∙_}
+use mathlib.Core.Bool.{true}
+use mathlib.Core.List.{List, [], _∷_}
 use native.Mathlib.Omega.{arith}
 use native.Mathlib.Nat.{zero-add}
 use lib.Dec.{ltb}
@@ -16,9 +16,9 @@ use Rattle.trading_hours.specs.declared.hours.Hours.{Hours}
 use Rattle.terms.specs.declared.events.LastStamp.{LastStamp}
 use Rattle.terms.specs.declared.events.LastStamp.the-variants.{Never, At}
 use Rattle.terms.specs.declared.events.OpenBar.{OpenBar}
-use Rattle.terms.specs.declared.events.OpenBar.the-variants.{Nothing, Begun}
+use Rattle.terms.specs.declared.events.OpenBar.the-variants.{Nothing}
 use Rattle.terms.specs.declared.events.Carried.{Carried}
-use Rattle.trading_hours.specs.Hours.{validHours, inHours}
+use Rattle.trading_hours.specs.Hours.{inHours}
 use Rattle.terms.specs.Events.{goesOn, stepOf, carriedOf, minutesOf}
 use Rattle.terms.specs.Layer.{above, soundCarried, validLayer, stampsTried}
 use Rattle.trading_hours.specs.TermRule.{endOf}

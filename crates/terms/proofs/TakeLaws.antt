@@ -1,12 +1,12 @@
 -- What a run takes in: nothing of a refused one; of an accepted one first the bars that end no term bar, and then the others. Assumes nothing.
-use Prim.Native.Nat.{ℕ, _+_, _-_, _*_, _≤_, _<_}
+use Prim.Native.Nat.{ℕ, _-_, _*_, _≤_, _<_}
 use mathlib.Core.Path.{_≡_, refl, ap, sym, _∙_}
-use mathlib.Core.List.{List, [], _++_}
+use mathlib.Core.List.{List, []}
 use native.Mathlib.Omega.{arith}
 use lib.ListN.{length, take, drop, length-drop, take-append-drop}
 use lib.Seq.{take-all}
 use lib.Ieee.{Float}
-use Rattle.measures.specs.Bar.{Bar, barsOf}
+use Rattle.measures.specs.Bar.{barsOf}
 use Rattle.measures.proofs.RunLaws.{length-bars, bars-drop}
 use Rattle.recognisers.specs.Number.{places}
 use Rattle.recognisers.specs.declared.call.Verdict.{Verdict}

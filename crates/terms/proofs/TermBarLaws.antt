@@ -1,14 +1,13 @@
 -- Each term bar is the bar of its term's bars, for every list of events. Assumes nothing.
 use Prim.Native.Nat.{ℕ}
-use mathlib.Core.Path.{_≡_, refl, ap, sym, _∙_}
+use mathlib.Core.Path.{_≡_, refl}
 use mathlib.Core.Bool.{Bool, true, false, cond}
-use mathlib.Core.List.{List, [], _∷_, _++_, foldl, map, map-append, foldl-append}
+use mathlib.Core.List.{List, [], _∷_, _++_, map, map-append, foldl-append}
 use Rattle.measures.specs.Bar.{Bar}
 use Rattle.measures.specs.Fold.{columnOf}
 use Rattle.trading_hours.specs.declared.hours.Hours.{Hours}
 use Rattle.terms.specs.declared.events.LastStamp.{LastStamp}
 use Rattle.terms.specs.declared.events.LastStamp.the-variants.{Never, At}
-use Rattle.terms.specs.declared.events.OpenBar.{OpenBar}
 use Rattle.terms.specs.Events.{Event, Minute, Close, carriedWith, goesOn, joinedBar, opened, endedBy, barsIn, stepOf, endedOf, carriedOf, termBar, termIn, endedTerms, openTerm, openOf, TermBars}
 
 -- one bar more of a term is joined to the term's bar

@@ -1,7 +1,7 @@
 -- What every list of calls leaves, over every layer to which nothing came and over the layer that making gives. Assumes nothing.
 use Prim.Native.Nat.{ℕ, _+_, _*_, _≤_}
 use mathlib.Core.Path.{_≡_, refl, ap, sym, _∙_}
-use mathlib.Core.Bool.{Bool, true, false, cond, not}
+use mathlib.Core.Bool.{true}
 use mathlib.Core.List.{List, [], _∷_, _++_, append-assoc, append-nil}
 use native.Mathlib.Omega.{arith}
 use native.Mathlib.Nat.{zero-add}
@@ -10,12 +10,12 @@ use Rattle.measures.specs.Bar.{Bar}
 use Rattle.recognisers.specs.Threshold.{Thresholds}
 use Rattle.recognisers.specs.declared.call.Verdict.{Verdict}
 use Rattle.recognisers.specs.declared.call.Verdict.the-variants.{Accepted, Denied}
-use Rattle.recognisers.specs.Number.{rowBytes, mostBars}
+use Rattle.recognisers.specs.Number.{rowBytes}
 use Rattle.bar_box.specs.Sheet.{rowsOf}
 use Rattle.measures.specs.Bar.{barsOf}
 use Rattle.recognisers.specs.Threshold.{standardSet, validOf}
 use borrow.Author.Tests.{not-false}
-use Rattle.bar_box.specs.Box.{takenIn, leaves, fedOf}
+use Rattle.bar_box.specs.Box.{leaves, fedOf}
 use Rattle.bar_box.proofs.SheetLaws.{rows-append}
 use Rattle.bar_box.proofs.BoxLaws.{taken-none}
 use Rattle.bar_box.specs.History.{pricesOf, oneFeed, historyAfter, verdictOn as boxVerdictOn, appended as boxAppended}
@@ -24,10 +24,9 @@ use Rattle.bar_box.proofs.Demand3.{standard-valid, fresh-none, demand-3}
 use Rattle.bar_box.proofs.FeedSteps.{fits}
 use Rattle.bar_box.proofs.FeedLists.{Sound, sound-empty, one-accepted, one-box, one-rows}
 use Rattle.trading_hours.specs.declared.hours.Hours.{Hours}
-use Rattle.terms.specs.declared.events.Carried.{Carried}
 use Rattle.terms.specs.declared.layers.Layer.{Layer}
 use Rattle.terms.specs.Events.{Event, nothingYet, endedOf, carriedOf}
-use Rattle.terms.specs.History.{Call, eventsIn, sheetIn, verdictOn, appended, eventsAfter, verdictsOn, called, layerAfter, verdictsOf, joinedEnded, rowsOfCall, joinedRows, Holds, NoneYet, TermCalls}
+use Rattle.terms.specs.History.{Call, eventsIn, verdictOn, appended, eventsAfter, verdictsOn, layerAfter, verdictsOf, joinedEnded, joinedRows, Holds, NoneYet, TermCalls}
 use Rattle.trading_hours.specs.Hours.{mostWindows, windowsOf, withZeros, validHours, risingFrom, termLength}
 use Rattle.trading_hours.proofs.HourLaws.{zeros-windows}
 use Rattle.terms.specs.Layer.{wholeDay, soundCarried, validLayer, makeVerdict, taken, madeBy, madeOf}

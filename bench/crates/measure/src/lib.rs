@@ -16,12 +16,15 @@ impl Rates {
     pub fn round(&mut self, passes: usize, sheet: &mut [u8], mut run: impl FnMut(&mut [u8])) {
         // No label is left from the round before.
         sheet.fill(u8::MAX);
-        let start = Instant::now();
-        for _ in 0..passes {
-            run(sheet);
-        }
-        let time = start.elapsed();
         let bars = sheet.len() / ROW_BYTES * passes;
+        self.time(bars, || (0..passes).for_each(|_| run(sheet)));
+    }
+
+    /// Times the next round, in which so many bars are taken in.
+    pub fn time(&mut self, bars: usize, run: impl FnOnce()) {
+        let start = Instant::now();
+        run();
+        let time = start.elapsed();
         self.0.push(bars as f64 / time.as_secs_f64() / 1e6);
     }
 

@@ -1,7 +1,7 @@
 //! The counts that `jcc_tally` is lent.
 
-use crate::lent::Lent;
 use jcc_types::{LABELS, NAMES, TALLY_COUNTS};
+use lent::Lent;
 use port::Tally;
 
 pub struct Counts {

@@ -4,7 +4,6 @@
 
 mod counts;
 mod judge;
-mod lent;
 mod options;
 mod ordinal;
 mod refused;

@@ -1,8 +1,8 @@
 //! The sheet that an export is lent.
 
-use crate::lent::Lent;
 use crate::text::pair;
 use jcc_types::ROW_BYTES;
+use lent::Lent;
 
 pub struct Sheet(Lent<u8>);
 

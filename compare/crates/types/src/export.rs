@@ -1,15 +1,16 @@
 //! The exports of the static libraries as safe functions.
 
-/// Makes a safe function of an export that takes numbers, the thirteen thresholds, and slices, each
-/// as a pointer and a length: first those that it reads, then those that it writes. Its thresholds
-/// are a [`Thresholds`](crate::Thresholds), its slices are borrowed, and its result is the export's.
+/// Makes a safe function of an export that takes numbers, the thirteen thresholds, perhaps more
+/// numbers, and slices, each as a pointer and a length: first those that it reads, then those that it
+/// writes. Its thresholds are a [`Thresholds`](crate::Thresholds), its slices are borrowed, and its
+/// result is the export's.
 ///
 /// It is for the exports of the Rattle libraries alone, since it relies on what is proved of them.
 #[macro_export]
 macro_rules! export {
     (
         $(#[$about:meta])*
-        fn $name:ident = $export:ident($($number:ident),*)
+        fn $name:ident = $export:ident($($number:ident),*) $(and ($($more:ident),*))?
             reads ($($read:ident: [$read_type:ty]),*)
             writes ($($written:ident: [$written_type:ty]),*)
     ) => {
@@ -17,6 +18,7 @@ macro_rules! export {
         pub fn $name(
             $($number: u32,)*
             t: &$crate::Thresholds,
+            $($($more: u32,)*)?
             $($read: &[$read_type],)*
             $($written: &mut [$written_type],)*
         ) -> u32 {
@@ -36,6 +38,7 @@ macro_rules! export {
                     th10: u32,
                     th13: u32,
                     th14: u32,
+                    $($($more: u32,)*)?
                     $($read: *const $read_type, _: usize,)*
                     $($written: *mut $written_type, _: usize,)*
                 ) -> u32;
@@ -59,6 +62,7 @@ macro_rules! export {
                     t.th10,
                     t.th13,
                     t.th14,
+                    $($($more,)*)?
                     $($read.as_ptr(), $read.len(),)*
                     $($written.as_mut_ptr(), $written.len(),)*
                 )

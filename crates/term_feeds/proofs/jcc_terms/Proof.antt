@@ -1,6 +1,5 @@
 -- A refused making leaves sheet and answers; otherwise the calls are made. Assumes nothing.
-use mathlib.Core.Path.{_≡_, ap, sym, _∙_}
-use Rattle.terms.specs.declared.layers.Layer.{Layer}
+use mathlib.Core.Path.{ap, sym, _∙_}
 use Rattle.terms.specs.declared.layers.Taken.{Taken}
 use Rattle.term_feeds.proofs.CallLaws.{making-refused, making-accepted}
 use borrow.Author.Needs.{needs}

@@ -1,7 +1,7 @@
 -- A close, or a run of the bars that are left; both on the sheet from a byte on. Assumes nothing.
-use Prim.Native.Nat.{_+_, _*_}
-use mathlib.Core.Path.{_≡_, refl, ap, sym, _∙_}
-use lib.ListN.{length, take, drop}
+use Prim.Native.Nat.{_*_}
+use mathlib.Core.Path.{_∙_}
+use lib.ListN.{drop}
 use Rattle.term_feeds.proofs.ListLaws.{part-is, rest-is, put-rest}
 use Rattle.term_feeds.proofs.CallLaws.{call-close, call-run}
 use borrow.Author.Needs.{needs}

@@ -1,16 +1,16 @@
 -- The loop's invariant: the sheet and the answers as they stand, and then what the calls that are left make of them. Assumes nothing.
-use Prim.Native.Nat.{ℕ, _+_, _-_, _*_, _≤_, _<_}
+use Prim.Native.Nat.{ℕ, _+_, _-_, _≤_, _<_}
 use mathlib.Core.Path.{_≡_, refl, ap, sym, _∙_}
-use mathlib.Core.List.{List, [], _∷_, _++_, append-nil}
+use mathlib.Core.List.{List, [], _++_}
 use native.Mathlib.Omega.{arith}
 use native.Mathlib.Nat.{sub-zero}
 use borrow.Author.Needs.{needs}
-use lib.ListN.{length, getD, take, drop, drop-of-length-le, take-append-drop}
+use lib.ListN.{length, take, drop, drop-of-length-le, take-append-drop}
 use lib.Seq.{take-all}
 use Rattle.bar_box.specs.Sheet.{overlay}
 use Rattle.bar_box.proofs.Overlay.{overlay-none}
 use Rattle.terms.specs.declared.layers.Taken.{Taken}
-use Rattle.term_feeds.specs.Calls.{answerOf, answersOf, sheetOf}
+use Rattle.term_feeds.specs.Calls.{answersOf, sheetOf}
 use Rattle.term_feeds.proofs.ListLaws.{overlay-step}
 use Rattle.term_feeds.proofs.CallLaws.{rows-at, sheet-next, answers-next}
 use Rattle.term_feeds.proofs.make_calls.Statement.{statement}

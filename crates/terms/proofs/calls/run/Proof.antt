@@ -1,18 +1,15 @@
 -- Nothing of a refused run is taken in; of an accepted one first the bars that end no term bar, and then the others. Assumes nothing.
-use Prim.Native.Nat.{_+_, _-_, _*_, _≤_, _<_}
-use mathlib.Core.Path.{_≡_, refl, ap, sym, _∙_}
+use Prim.Native.Nat.{_-_, _*_, _≤_, _<_}
+use mathlib.Core.Path.{_≡_, ap, sym, _∙_}
 use native.Mathlib.Omega.{arith}
 use borrow.Author.Needs.{needs}
 use lib.ListN.{length, length-map, length-drop, drop}
 use lib.Seq.{take-all}
-use Rattle.measures.specs.Bar.{barsOf}
-use Rattle.measures.proofs.RunLaws.{length-bars}
-use Rattle.recognisers.specs.declared.call.Verdict.{Verdict}
 use Rattle.recognisers.specs.declared.call.Verdict.the-variants.{Accepted}
 use Rattle.bar_box.specs.Box.{leaves}
 use Rattle.bar_box.proofs.FeedSteps.{lent-few}
 use Rattle.terms.specs.declared.calls.Progress.{Progress}
-use Rattle.terms.specs.Layer.{layerWith, runVerdictOf, taken}
+use Rattle.terms.specs.Layer.{layerWith, taken}
 use Rattle.terms.proofs.TakeLaws.{some-taken, one-each, bars-prices-are, run-ready, later-ready, later-each, later-feed, later-ran, later-sheet, quiet-run}
 use Rattle.terms.proofs.calls.run.Statement.{statement}
 use Rattle.terms.proofs.calls.run.Tie as tie

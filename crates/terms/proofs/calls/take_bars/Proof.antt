@@ -1,25 +1,21 @@
-use Rattle.terms.proofs.PassingLaws.{ready-after}
+-- The loop's invariant: the term bars that ended in the bars passed are taken in, and their rows stand on the sheet. Assumes nothing.
+use Prim.Native.Nat.{_-_, _≤_}
 use mathlib.Core.Path.{_≡_, refl, ap, sym, _∙_}
 use native.Mathlib.Omega.{arith}
-use Prim.Native.Nat.{_+_, _-_, _*_, _/_, _≤_, _<_}
-use lib.ListN.{length, length-map, take, drop, length-append, length-take, length-drop}
+use borrow.Author.Needs.{needs}
+use lib.ListN.{length, length-map, take, drop, length-append}
 use lib.Seq.{take-all}
 use Rattle.measures.specs.Bar.{barsOf}
-use Rattle.measures.proofs.RunLaws.{length-bars}
 use Rattle.bar_box.specs.Sheet.{rowsOf, overlay}
 use Rattle.bar_box.specs.Box.{kept, takenIn}
 use Rattle.bar_box.proofs.Overlay.{overlay-none}
-use Rattle.bar_box.proofs.FeedSteps.{fits}
 use Rattle.bar_box.proofs.BoxLaws.{taken-none, taken-append}
 use Rattle.bar_box.proofs.PriceLaws.{bars-prices}
-use Rattle.terms.specs.Events.{endedOf, carriedOf, minutesOf}
-use Rattle.terms.specs.Passing.{FilledBy}
-use Rattle.terms.proofs.EventLaws.{ended-few, length-minutes, ended-more, carried-more}
 use Rattle.bar_box.proofs.PartLaws.{rows-both}
-use Rattle.terms.proofs.FeedLaws.{some-accepted, some-room}
-use Prim.Native.Nat.{_+_, _-_, _*_, _/_, _≤_}
-use lib.ListN.{length, length-map, take, drop, length-append, length-take}
-use borrow.Author.Needs.{needs}
+use Rattle.terms.specs.Events.{endedOf, carriedOf, minutesOf}
+use Rattle.terms.proofs.EventLaws.{length-minutes, ended-more, carried-more}
+use Rattle.terms.proofs.PartLaws.{part-fits}
+use Rattle.terms.proofs.PassingLaws.{ready-after}
 use Rattle.terms.proofs.calls.take_bars.Statement.{statement}
 use Rattle.terms.proofs.calls.take_bars.Tie as tie
 
@@ -63,27 +59,10 @@ feed-front-requires c κs =
     let args = start .args in
     let pre = start .pre in
     let inv = at-loop .loop .inv in
-    let passed = at-loop .loop .done in
-    let es = minutesOf (args .stamps .now) (barsOf (args .prices .now)) in
-    let old = endedOf (args .h) (args .m) (args .c) (take passed es) in
-    let f = filled .fill .result in
-    let by : FilledBy (args .h) (args .m) (carriedOf (args .h) (args .m) (args .c) (take passed es)) (drop passed es) (filled .fill .last .1 .1 .1 .1 .1 .1 .0) f = rw (inv .3) at (filled .fill .ensures) in
-    let new = endedOf (args .h) (args .m) (carriedOf (args .h) (args .m) (args .c) (take passed es)) (take (f .passed) (drop passed es)) in
-    let both-are = ended-more (args .h) (args .m) (args .c) es passed (f .passed) in
-    let both-few = ended-few (args .h) (args .m) (args .c) (take (passed + f .passed) es) in
-    let some = length-take (passed + f .passed) es in
-    let total = length-minutes (args .stamps .now) (barsOf (args .prices .now)) (pre .1) in
-    let four = length-bars (args .prices .now) in
-    let sum : length old + length new ≤ length (args .prices .now) / 4 = omega (arith, length-append old new, ap length both-are) in
-    let count = by .count in
-    let bound = fits _ _ _ _ (pre .2) in
-    let left = length-drop passed es in
-    let within = by .within in
-    let turn : passed < length (args .stamps .now) = inside .loop-test .taken in
-    let progressed = by .some (omega arith) in
+    let by = rw (inv .3) at (filled .fill .ensures) in
+    let part = part-fits (args .h) (args .m) (args .c) (args .prices .now) (args .stamps .now) (pre .1) _ _ _ (pre .2) (at-loop .loop .done) (inside .loop-test .taken) _ (filled .fill .result) by in
     let size = filled .fill .kept .1 .1 .1 .1 .1 .1 .0 in
-    let room = some-room _ _ _ _ (pre .2) (length old) (f .count) (omega arith) in
-    (rw (inv .4) (some-accepted _ _ _ _ (pre .2) (length old) (f .count) (omega arith)), (omega (arith, by .few), omega arith))
+    (rw (inv .4) (part .accepted), (omega (arith, by .few), omega (arith, part .room)))
 
 add-rows : tie.Need-add-rows Inv-loop μ-loop
 add-rows c =
@@ -94,25 +73,9 @@ add-rows c =
     let args = start .args in
     let pre = start .pre in
     let inv = at-loop .loop .inv in
-    let passed = at-loop .loop .done in
-    let es = minutesOf (args .stamps .now) (barsOf (args .prices .now)) in
-    let old = endedOf (args .h) (args .m) (args .c) (take passed es) in
-    let f = filled .fill .result in
-    let by : FilledBy (args .h) (args .m) (carriedOf (args .h) (args .m) (args .c) (take passed es)) (drop passed es) (filled .fill .last .1 .1 .1 .1 .1 .1 .0) f = rw (inv .3) at (filled .fill .ensures) in
-    let new = endedOf (args .h) (args .m) (carriedOf (args .h) (args .m) (args .c) (take passed es)) (take (f .passed) (drop passed es)) in
-    let both-are = ended-more (args .h) (args .m) (args .c) es passed (f .passed) in
-    let both-few = ended-few (args .h) (args .m) (args .c) (take (passed + f .passed) es) in
-    let some = length-take (passed + f .passed) es in
-    let total = length-minutes (args .stamps .now) (barsOf (args .prices .now)) (pre .1) in
-    let four = length-bars (args .prices .now) in
-    let sum : length old + length new ≤ length (args .prices .now) / 4 = omega (arith, length-append old new, ap length both-are) in
-    let count = by .count in
-    let bound = fits _ _ _ _ (pre .2) in
-    let left = length-drop passed es in
-    let within = by .within in
-    let turn : passed < length (args .stamps .now) = inside .loop-test .taken in
-    let progressed = by .some (omega arith) in
-    omega arith
+    let by = rw (inv .3) at (filled .fill .ensures) in
+    let part = part-fits (args .h) (args .m) (args .c) (args .prices .now) (args .stamps .now) (pre .1) _ _ _ (pre .2) (at-loop .loop .done) (inside .loop-test .taken) _ (filled .fill .result) by in
+    omega (arith, part .few)
 
 add-done : tie.Need-add-done Inv-loop μ-loop
 add-done c =
@@ -123,25 +86,9 @@ add-done c =
     let args = start .args in
     let pre = start .pre in
     let inv = at-loop .loop .inv in
-    let passed = at-loop .loop .done in
-    let es = minutesOf (args .stamps .now) (barsOf (args .prices .now)) in
-    let old = endedOf (args .h) (args .m) (args .c) (take passed es) in
-    let f = filled .fill .result in
-    let by : FilledBy (args .h) (args .m) (carriedOf (args .h) (args .m) (args .c) (take passed es)) (drop passed es) (filled .fill .last .1 .1 .1 .1 .1 .1 .0) f = rw (inv .3) at (filled .fill .ensures) in
-    let new = endedOf (args .h) (args .m) (carriedOf (args .h) (args .m) (args .c) (take passed es)) (take (f .passed) (drop passed es)) in
-    let both-are = ended-more (args .h) (args .m) (args .c) es passed (f .passed) in
-    let both-few = ended-few (args .h) (args .m) (args .c) (take (passed + f .passed) es) in
-    let some = length-take (passed + f .passed) es in
-    let total = length-minutes (args .stamps .now) (barsOf (args .prices .now)) (pre .1) in
-    let four = length-bars (args .prices .now) in
-    let sum : length old + length new ≤ length (args .prices .now) / 4 = omega (arith, length-append old new, ap length both-are) in
-    let count = by .count in
-    let bound = fits _ _ _ _ (pre .2) in
-    let left = length-drop passed es in
-    let within = by .within in
-    let turn : passed < length (args .stamps .now) = inside .loop-test .taken in
-    let progressed = by .some (omega arith) in
-    omega arith
+    let by = rw (inv .3) at (filled .fill .ensures) in
+    let part = part-fits (args .h) (args .m) (args .c) (args .prices .now) (args .stamps .now) (pre .1) _ _ _ (pre .2) (at-loop .loop .done) (inside .loop-test .taken) _ (filled .fill .result) by in
+    omega (arith, part .within, part .most)
 
 loop-less : tie.Need-loop-less Inv-loop μ-loop
 loop-less c =
@@ -152,25 +99,9 @@ loop-less c =
     let args = start .args in
     let pre = start .pre in
     let inv = at-loop .loop .inv in
-    let passed = at-loop .loop .done in
-    let es = minutesOf (args .stamps .now) (barsOf (args .prices .now)) in
-    let old = endedOf (args .h) (args .m) (args .c) (take passed es) in
-    let f = filled .fill .result in
-    let by : FilledBy (args .h) (args .m) (carriedOf (args .h) (args .m) (args .c) (take passed es)) (drop passed es) (filled .fill .last .1 .1 .1 .1 .1 .1 .0) f = rw (inv .3) at (filled .fill .ensures) in
-    let new = endedOf (args .h) (args .m) (carriedOf (args .h) (args .m) (args .c) (take passed es)) (take (f .passed) (drop passed es)) in
-    let both-are = ended-more (args .h) (args .m) (args .c) es passed (f .passed) in
-    let both-few = ended-few (args .h) (args .m) (args .c) (take (passed + f .passed) es) in
-    let some = length-take (passed + f .passed) es in
-    let total = length-minutes (args .stamps .now) (barsOf (args .prices .now)) (pre .1) in
-    let four = length-bars (args .prices .now) in
-    let sum : length old + length new ≤ length (args .prices .now) / 4 = omega (arith, length-append old new, ap length both-are) in
-    let count = by .count in
-    let bound = fits _ _ _ _ (pre .2) in
-    let left = length-drop passed es in
-    let within = by .within in
-    let turn : passed < length (args .stamps .now) = inside .loop-test .taken in
-    let progressed = by .some (omega arith) in
-    omega arith
+    let by = rw (inv .3) at (filled .fill .ensures) in
+    let part = part-fits (args .h) (args .m) (args .c) (args .prices .now) (args .stamps .now) (pre .1) _ _ _ (pre .2) (at-loop .loop .done) (inside .loop-test .taken) _ (filled .fill .result) by in
+    omega (arith, part .within, part .some)
 
 loop-again : tie.Need-loop-again Inv-loop μ-loop
 loop-again c =
@@ -181,36 +112,25 @@ loop-again c =
     let args = start .args in
     let pre = start .pre in
     let inv = at-loop .loop .inv in
+    let by = rw (inv .3) at (filled .fill .ensures) in
+    let part = part-fits (args .h) (args .m) (args .c) (args .prices .now) (args .stamps .now) (pre .1) _ _ _ (pre .2) (at-loop .loop .done) (inside .loop-test .taken) _ (filled .fill .result) by in
     let passed = at-loop .loop .done in
     let es = minutesOf (args .stamps .now) (barsOf (args .prices .now)) in
-    let old = endedOf (args .h) (args .m) (args .c) (take passed es) in
     let f = filled .fill .result in
-    let by : FilledBy (args .h) (args .m) (carriedOf (args .h) (args .m) (args .c) (take passed es)) (drop passed es) (filled .fill .last .1 .1 .1 .1 .1 .1 .0) f = rw (inv .3) at (filled .fill .ensures) in
+    let old = endedOf (args .h) (args .m) (args .c) (take passed es) in
     let new = endedOf (args .h) (args .m) (carriedOf (args .h) (args .m) (args .c) (take passed es)) (take (f .passed) (drop passed es)) in
     let both-are = ended-more (args .h) (args .m) (args .c) es passed (f .passed) in
-    let both-few = ended-few (args .h) (args .m) (args .c) (take (passed + f .passed) es) in
-    let some = length-take (passed + f .passed) es in
-    let total = length-minutes (args .stamps .now) (barsOf (args .prices .now)) (pre .1) in
-    let four = length-bars (args .prices .now) in
-    let sum : length old + length new ≤ length (args .prices .now) / 4 = omega (arith, length-append old new, ap length both-are) in
-    let count = by .count in
-    let bound = fits _ _ _ _ (pre .2) in
-    let left = length-drop passed es in
-    let within = by .within in
-    let turn : passed < length (args .stamps .now) = inside .loop-test .taken in
-    let progressed = by .some (omega arith) in
     let fed = c .before .before .before .before .before in
     let b = args .b in
     let all : length (b .bars) ≡ 64 = simp length-map at (start .good .0 .1 .1 .1 .1 .0 .1 .0 .1) in
-    let front = ap barsOf (by .prices) ∙ bars-prices new in
-    let room = some-room _ _ _ _ (pre .2) (length old) (length new) sum in (
-      omega arith,
+    let front = ap barsOf (by .prices) ∙ bars-prices new in (
+      omega (arith, part .within),
       fed .feed-front .kept .1 .1 .1 .0 ∙ inv .1,
       filled .fill .kept .1 .1 .1 .1 .1 .1 .0 ∙ inv .2,
       by .carried ∙ sym (carried-more (args .h) (args .m) (args .c) es passed (f .passed)),
       fed .feed-front .ensures .0 ∙ rw (front, inv .4, both-are) (taken-append b all old new),
       rw (both-are, length-append, by .count, inv .5),
-      fed .feed-front .ensures .1 ∙ rw (front, inv .4, inv .6, both-are) (rows-both b all old new (args .sheet .now) (at-loop .loop .rows) (inv .5) room),
+      fed .feed-front .ensures .1 ∙ rw (front, inv .4, inv .6, both-are) (rows-both b all old new (args .sheet .now) (at-loop .loop .rows) (inv .5) (omega (arith, part .room, by .count))),
     )
 
 same-length : tie.Need-same-length Inv-loop μ-loop

@@ -4,8 +4,6 @@ use mathlib.Core.Path.{_≡_, refl, ap, sym, _∙_}
 use native.Mathlib.Omega.{arith}
 use Prim.Native.Nat.{_+_, _-_, _*_, _≤_, _<_}
 use mathlib.Core.List.{_++_}
-use borrow.Author.Tests.{ltb-true}
-use lib.Dec.{ltb}
 use lib.ListN.{length, getD, take, drop, length-append, length-take, length-drop}
 use lib.Seq.{take-at}
 use Rattle.measures.specs.Bar.{noBar, barsOf}
@@ -15,8 +13,7 @@ use Rattle.bar_box.proofs.Overlay.{overlay-none, overlay-more}
 use Rattle.bar_box.proofs.PriceLaws.{length-prices, prices-append}
 use Rattle.terms.specs.declared.events.Step.{Step}
 use Rattle.terms.specs.Events.{stepOf, barsIn, endedOf, carriedOf, minutesOf}
-use Rattle.trading_hours.proofs.HourLaws.{both}
-use Rattle.terms.proofs.EventLaws.{few-in, ended-few, length-minutes, ended-next, carried-next, passed-some}
+use Rattle.terms.proofs.EventLaws.{turn-of, few-in, ended-few, length-minutes, ended-next, carried-next, passed-some}
 use Rattle.terms.specs.Passing.{endAfter}
 use Rattle.terms.proofs.PassingLaws.{fill-ready}
 use Rattle.terms.proofs.events.fill.Statement.{statement}
@@ -47,13 +44,9 @@ add-stamp c =
     let start = at-loop .before .before .before .before .before in
     let pre = start .pre in
     let inv = at-loop .loop .inv in
-    let args = start .args in
-    let k = at-loop .loop .k in
-    let count = at-loop .loop .count in
-    let n = length (args .stamps .now) - args .from in
-    let test = both (ltb k n) (ltb count 32) (inside .loop-test .taken) in
-    let more = ltb-true k n (test .0) in
-    let free = ltb-true count 32 (test .1) in
+    let turn = turn-of (at-loop .loop .k) (length (start .args .stamps .now) - start .args .from) (at-loop .loop .count) (inside .loop-test .taken) in
+    let more = turn .0 in
+    let free = turn .1 in
     omega arith
 
 mul-stamp : tie.Need-mul-stamp Inv-loop μ-loop
@@ -63,13 +56,9 @@ mul-stamp c =
     let start = at-loop .before .before .before .before .before in
     let pre = start .pre in
     let inv = at-loop .loop .inv in
-    let args = start .args in
-    let k = at-loop .loop .k in
-    let count = at-loop .loop .count in
-    let n = length (args .stamps .now) - args .from in
-    let test = both (ltb k n) (ltb count 32) (inside .loop-test .taken) in
-    let more = ltb-true k n (test .0) in
-    let free = ltb-true count 32 (test .1) in
+    let turn = turn-of (at-loop .loop .k) (length (start .args .stamps .now) - start .args .from) (at-loop .loop .count) (inside .loop-test .taken) in
+    let more = turn .0 in
+    let free = turn .1 in
     omega arith
 
 shared-slice-read-stamp : tie.Need-shared-slice-read-stamp Inv-loop μ-loop
@@ -79,13 +68,9 @@ shared-slice-read-stamp c =
     let start = at-loop .before .before .before .before .before in
     let pre = start .pre in
     let inv = at-loop .loop .inv in
-    let args = start .args in
-    let k = at-loop .loop .k in
-    let count = at-loop .loop .count in
-    let n = length (args .stamps .now) - args .from in
-    let test = both (ltb k n) (ltb count 32) (inside .loop-test .taken) in
-    let more = ltb-true k n (test .0) in
-    let free = ltb-true count 32 (test .1) in
+    let turn = turn-of (at-loop .loop .k) (length (start .args .stamps .now) - start .args .from) (at-loop .loop .count) (inside .loop-test .taken) in
+    let more = turn .0 in
+    let free = turn .1 in
     omega arith
 
 add-bar-or-none : tie.Need-add-bar-or-none Inv-loop μ-loop
@@ -95,13 +80,9 @@ add-bar-or-none c =
     let start = at-loop .before .before .before .before .before in
     let pre = start .pre in
     let inv = at-loop .loop .inv in
-    let args = start .args in
-    let k = at-loop .loop .k in
-    let count = at-loop .loop .count in
-    let n = length (args .stamps .now) - args .from in
-    let test = both (ltb k n) (ltb count 32) (inside .loop-test .taken) in
-    let more = ltb-true k n (test .0) in
-    let free = ltb-true count 32 (test .1) in
+    let turn = turn-of (at-loop .loop .k) (length (start .args .stamps .now) - start .args .from) (at-loop .loop .count) (inside .loop-test .taken) in
+    let more = turn .0 in
+    let free = turn .1 in
     omega arith
 
 bar-or-none-requires : tie.Need-bar-or-none-requires Inv-loop μ-loop
@@ -114,13 +95,11 @@ step-on-requires c κs =
     let start = at-loop .before .before .before .before .before in
     let pre = start .pre in
     let inv = at-loop .loop .inv in
+    let turn = turn-of (at-loop .loop .k) (length (start .args .stamps .now) - start .args .from) (at-loop .loop .count) (inside .loop-test .taken) in
+    let more = turn .0 in
+    let free = turn .1 in
     let args = start .args in
     let k = at-loop .loop .k in
-    let count = at-loop .loop .count in
-    let n = length (args .stamps .now) - args .from in
-    let test = both (ltb k n) (ltb count 32) (inside .loop-test .taken) in
-    let more = ltb-true k n (test .0) in
-    let free = ltb-true count 32 (test .1) in
     let ss = args .stamps .now in
     let bars = barsOf (args .prices .now) in
     let within : args .from + k < length ss = omega arith in
@@ -134,13 +113,11 @@ next-end-requires c κs =
     let start = at-loop .before .before .before .before .before in
     let pre = start .pre in
     let inv = at-loop .loop .inv in
+    let turn = turn-of (at-loop .loop .k) (length (start .args .stamps .now) - start .args .from) (at-loop .loop .count) (inside .loop-test .taken) in
+    let more = turn .0 in
+    let free = turn .1 in
     let args = start .args in
     let k = at-loop .loop .k in
-    let count = at-loop .loop .count in
-    let n = length (args .stamps .now) - args .from in
-    let test = both (ltb k n) (ltb count 32) (inside .loop-test .taken) in
-    let more = ltb-true k n (test .0) in
-    let free = ltb-true count 32 (test .1) in
     let ss = args .stamps .now in
     let bars = barsOf (args .prices .now) in
     let within : args .from + k < length ss = omega arith in
@@ -154,13 +131,9 @@ put-ended-requires c κs =
     let start = at-loop .before .before .before .before .before in
     let pre = start .pre in
     let inv = at-loop .loop .inv in
-    let args = start .args in
-    let k = at-loop .loop .k in
-    let count = at-loop .loop .count in
-    let n = length (args .stamps .now) - args .from in
-    let test = both (ltb k n) (ltb count 32) (inside .loop-test .taken) in
-    let more = ltb-true k n (test .0) in
-    let free = ltb-true count 32 (test .1) in
+    let turn = turn-of (at-loop .loop .k) (length (start .args .stamps .now) - start .args .from) (at-loop .loop .count) (inside .loop-test .taken) in
+    let more = turn .0 in
+    let free = turn .1 in
     omega arith
 
 add-count : tie.Need-add-count Inv-loop μ-loop
@@ -170,15 +143,11 @@ add-count c =
     let start = at-loop .before .before .before .before .before in
     let pre = start .pre in
     let inv = at-loop .loop .inv in
-    let args = start .args in
-    let k = at-loop .loop .k in
-    let count = at-loop .loop .count in
-    let n = length (args .stamps .now) - args .from in
-    let test = both (ltb k n) (ltb count 32) (inside .loop-test .taken) in
-    let more = ltb-true k n (test .0) in
-    let free = ltb-true count 32 (test .1) in
+    let turn = turn-of (at-loop .loop .k) (length (start .args .stamps .now) - start .args .from) (at-loop .loop .count) (inside .loop-test .taken) in
+    let more = turn .0 in
+    let free = turn .1 in
     let call = c .before .before in
-    omega (arith, call .put-ended .ensures .0, few-in (args .h) (args .m) (call .before .before .before .step-on .result .ended))
+    omega (arith, call .put-ended .ensures .0, few-in (call .before .before .before .step-on .result .ended))
 
 add-k : tie.Need-add-k Inv-loop μ-loop
 add-k c =
@@ -187,13 +156,9 @@ add-k c =
     let start = at-loop .before .before .before .before .before in
     let pre = start .pre in
     let inv = at-loop .loop .inv in
-    let args = start .args in
-    let k = at-loop .loop .k in
-    let count = at-loop .loop .count in
-    let n = length (args .stamps .now) - args .from in
-    let test = both (ltb k n) (ltb count 32) (inside .loop-test .taken) in
-    let more = ltb-true k n (test .0) in
-    let free = ltb-true count 32 (test .1) in
+    let turn = turn-of (at-loop .loop .k) (length (start .args .stamps .now) - start .args .from) (at-loop .loop .count) (inside .loop-test .taken) in
+    let more = turn .0 in
+    let free = turn .1 in
     omega arith
 
 loop-less : tie.Need-loop-less Inv-loop μ-loop
@@ -203,13 +168,9 @@ loop-less c =
     let start = at-loop .before .before .before .before .before in
     let pre = start .pre in
     let inv = at-loop .loop .inv in
-    let args = start .args in
-    let k = at-loop .loop .k in
-    let count = at-loop .loop .count in
-    let n = length (args .stamps .now) - args .from in
-    let test = both (ltb k n) (ltb count 32) (inside .loop-test .taken) in
-    let more = ltb-true k n (test .0) in
-    let free = ltb-true count 32 (test .1) in
+    let turn = turn-of (at-loop .loop .k) (length (start .args .stamps .now) - start .args .from) (at-loop .loop .count) (inside .loop-test .taken) in
+    let more = turn .0 in
+    let free = turn .1 in
     omega arith
 
 loop-again : tie.Need-loop-again Inv-loop μ-loop
@@ -220,17 +181,16 @@ loop-again c =
     let start = at-loop .before .before .before .before .before in
     let pre = start .pre in
     let inv = at-loop .loop .inv in
+    let turn = turn-of (at-loop .loop .k) (length (start .args .stamps .now) - start .args .from) (at-loop .loop .count) (inside .loop-test .taken) in
+    let more = turn .0 in
+    let free = turn .1 in
     let args = start .args in
     let k = at-loop .loop .k in
-    let count = at-loop .loop .count in
-    let n = length (args .stamps .now) - args .from in
-    let test = both (ltb k n) (ltb count 32) (inside .loop-test .taken) in
-    let more = ltb-true k n (test .0) in
-    let free = ltb-true count 32 (test .1) in
     let ss = args .stamps .now in
     let bars = barsOf (args .prices .now) in
     let within : args .from + k < length ss = omega arith in
     let fit = fill-ready (args .h) (args .m) (args .c) ss bars (args .from) k (pre .2) within (pre .0) in
+    let count = at-loop .loop .count in
     let call = c .before .before .before in
     let ends = call .before .before in
     let stepped = ends .before in
@@ -243,7 +203,7 @@ loop-again c =
     stepped .step-on .ensures ∙ rw (read .bar-or-none .ensures, inv .5) in
     let new = barsIn (stepped .step-on .result .ended) in
     let more-ended : endedOf h m (args .c) (take (k + 1) es) ≡ old ++ new = ended-next h m (args .c) ss bars (args .from) k within (pre .2) ∙ rw made in
-    let few = few-in h m (stepped .step-on .result .ended) in
+    let few = few-in (stepped .step-on .result .ended) in
     let put = call .put-ended .ensures in
     let old-prices = length-prices old in
     let new-prices = length-prices new in (

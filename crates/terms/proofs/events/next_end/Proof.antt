@@ -1,5 +1,5 @@
 -- Before the end of the last one's term it is that. Assumes nothing.
-use mathlib.Core.Path.{_≡_, refl, ap, sym, _∙_}
+use mathlib.Core.Path.{sym}
 use Rattle.terms.proofs.PassingLaws.{end-inside}
 use borrow.Author.Needs.{needs}
 use Rattle.terms.proofs.events.next_end.Statement.{statement}

@@ -1,5 +1,5 @@
 -- A stamp goes on in the last one's term exactly if it lies before its end. Assumes nothing.
-use mathlib.Core.Path.{_≡_, refl, ap, sym, _∙_}
+use mathlib.Core.Path.{_∙_}
 use Rattle.terms.specs.Events.{stepOf}
 use Rattle.terms.proofs.PassingLaws.{end-goes-on}
 use borrow.Author.Needs.{needs}

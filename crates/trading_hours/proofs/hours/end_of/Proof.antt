@@ -1,5 +1,5 @@
 -- The begin of the run of m minutes is found from the minute itself. Assumes nothing.
-use mathlib.Core.Path.{_≡_, refl, ap, sym, _∙_}
+use mathlib.Core.Path.{_≡_}
 use native.Mathlib.Omega.{arith}
 use native.Mathlib.Nat.{mod-le}
 use lib.ListN.{length, length-map}

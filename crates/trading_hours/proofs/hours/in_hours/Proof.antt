@@ -1,5 +1,5 @@
 -- A window has the minute exactly if its place is one of them. Assumes nothing.
-use mathlib.Core.Path.{_≡_, refl, ap, sym, _∙_}
+use mathlib.Core.Path.{_≡_}
 use Prim.Native.Nat.{min}
 use lib.ListN.{length, length-map, length-take}
 use Rattle.measures.proofs.RunLaws.{take-least}

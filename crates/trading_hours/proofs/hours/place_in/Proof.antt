@@ -1,10 +1,10 @@
 -- The loop's invariant: the windows passed don't have the minute. Assumes nothing.
 use Prim.Native.Nat.{_+_, _-_, _≤_, _<_}
-use mathlib.Core.Path.{_≡_, refl, sym, _∙_}
+use mathlib.Core.Path.{_≡_, sym}
 use native.Mathlib.Omega.{arith}
 use native.Mathlib.Nat.{zero-add}
 use borrow.Author.Needs.{needs}
-use lib.ListN.{length, take, drop, getD}
+use lib.ListN.{length, take, drop}
 use lib.Seq.{getD-take, length-take-le}
 use Rattle.trading_hours.specs.Hours.{placeOf, noWindow}
 use Rattle.trading_hours.proofs.HourLaws.{place-next, place-found, place-past}

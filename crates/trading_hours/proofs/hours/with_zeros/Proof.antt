@@ -1,5 +1,5 @@
 -- Place by place: a window in use, or zeros. Assumes nothing.
-use mathlib.Core.Path.{_≡_, sym, _∙_}
+use mathlib.Core.Path.{_≡_}
 use lib.ListN.{length, length-map}
 use Rattle.measures.proofs.RunLaws.{take-least}
 use Rattle.trading_hours.specs.Hours.{withZeros}
