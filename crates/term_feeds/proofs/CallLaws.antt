@@ -13,11 +13,12 @@ use Rattle.recognisers.specs.declared.call.Refusal.{Refusal}
 use Rattle.recognisers.specs.declared.call.Verdict.the-variants.{Accepted, Denied}
 use Rattle.recognisers.specs.Refusal.{refusalNumber}
 use Rattle.bar_box.specs.Sheet.{overlay}
+use Rattle.feeds.specs.Result.{verdictNumber}
 use Rattle.terms.specs.declared.layers.Layer.{Layer}
 use Rattle.terms.specs.declared.layers.Taken.{Taken}
 use Rattle.terms.specs.History.{Call, Run, Shut, sheetIn as lentSheet, called, sheetAfter}
 use Rattle.terms.proofs.CallSteps.{rows-fit}
-use Rattle.term_feeds.specs.Calls.{callOf, answerOf, answersOf, sheetOf, verdictNumber, madeIn, sheetIn, answersIn}
+use Rattle.term_feeds.specs.Calls.{callOf, answerOf, answersOf, sheetOf, madeIn, sheetIn, answersIn}
 use Rattle.term_feeds.proofs.ListLaws.{left-is, front-more, behind-more}
 
 -- a call of no bar is a close, any other a run

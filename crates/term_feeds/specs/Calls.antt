@@ -62,11 +62,6 @@ sheetOf l prices stamps sheet (n ∷ ns) =
 
 -- ---- the export
 
--- the refusal's number of the making, 0 for none
-abbrev pub verdictNumber : Verdict → ℕ
-verdictNumber Accepted = 0
-verdictNumber (Denied r) = refusalNumber r
-
 abbrev pub madeIn : Thresholds → ℕ → List ℕ → Taken
 madeIn t m numbers = madeOf t (hoursIn numbers) m
 

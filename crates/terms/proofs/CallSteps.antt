@@ -14,8 +14,8 @@ use Rattle.recognisers.specs.declared.call.Verdict.{Verdict}
 use Rattle.recognisers.specs.declared.call.Verdict.the-variants.{Accepted, Denied}
 use Rattle.recognisers.specs.Number.{places, rowBytes, mostBars}
 use Rattle.bar_box.specs.Sheet.{rowsOf}
-use Rattle.bar_box.specs.Box.{takenIn, leaves, feedVerdict}
-use Rattle.bar_box.specs.History.{pricesOf, NoBars}
+use Rattle.bar_box.specs.Box.{takenIn, leaves, feedVerdict, fedOf}
+use Rattle.bar_box.specs.History.{pricesOf, oneFeed, fed, NoBars}
 use Rattle.bar_box.proofs.SheetLaws.{length-rows, rows-newest}
 use Rattle.bar_box.proofs.BoxLaws.{taken-append}
 use Rattle.bar_box.proofs.PriceLaws.{length-prices}
@@ -63,6 +63,10 @@ call-feed t h m c n (Shut sheet) e =
     let met = close-meets t h m c n (length sheet) e in
     let few = ended-few h m c (Close ∷ []) in
     bars-accepted t n 4 (length sheet) (met .feed) (endedOf h m c (Close ∷ [])) (omega arith)
+
+pub box-accepts : (l : Layer) (x : Call) → called l x .verdict ≡ Accepted → fed (l .inner) (oneFeed (endedIn l (eventsIn x)) (sheetIn x)) .verdict ≡ Accepted
+unfolding fedOf
+box-accepts l x e = call-feed _ _ _ _ _ x (sym (ap (λ (o : Taken). o .verdict) (called-is l x)) ∙ e)
 
 -- the rows that a call fills are no more than a box may count, and its sheet has room for them
 pub rows-fit : (l : Layer) (x : Call) → (called l x .rows ≤ mostBars) × (rowBytes * called l x .rows ≤ length (sheetIn x))

@@ -32,7 +32,7 @@ use Rattle.trading_hours.proofs.HourLaws.{zeros-windows}
 use Rattle.terms.specs.Layer.{wholeDay, soundCarried, validLayer, makeVerdict, taken, madeBy, madeOf}
 use Rattle.terms.proofs.CallLaws.{none-true}
 use Rattle.terms.proofs.EventLaws.{carried-last, ended-append}
-use Rattle.terms.proofs.CallSteps.{Kept, kept-none, kept-step, events-feed, layerOf, verdict-step, layer-step, rows-step}
+use Rattle.terms.proofs.CallSteps.{box-accepts, Kept, kept-none, kept-step, events-feed, layerOf, verdict-step, layer-step, rows-step}
 
 -- ---- one feed of bars to no history
 
@@ -236,4 +236,4 @@ made-same t g h m c w =
 
 pub term-calls : TermCalls
 unfolding Valid
-term-calls = record { holds = holds-after; cuts = same-cuts; made = made-any; made-valid = made-valid; made-same = made-same }
+term-calls = record { holds = holds-after; cuts = same-cuts; box-accepts = box-accepts; made = made-any; made-valid = made-valid; made-same = made-same }

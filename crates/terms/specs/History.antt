@@ -132,6 +132,8 @@ pub record TermCalls : Type 0 where
   pub cuts : (l : Layer) → NoneYet l → (xs ys : List Call)
       → eventsAfter (l .inner .thresholds) (l .hours) (l .minutes) [] xs ≡ eventsAfter (l .inner .thresholds) (l .hours) (l .minutes) [] ys
       → (layerAfter l xs ≡ layerAfter l ys) × (joinedRows l xs ≡ joinedRows l ys)
+  -- the box's own feed of the term bars that end in a call is never refused where the call isn't, whatever layer is handed in
+  pub box-accepts : (l : Layer) (x : Call) → called l x .verdict ≡ Accepted → fed (l .inner) (oneFeed (endedIn l (eventsIn x)) (sheetIn x)) .verdict ≡ Accepted
   -- what making gives is such a layer, with thresholds inside their limits and hours, term length and carried bar that keep the rules; it is the
   -- same for hours with the same windows in use
   pub made : (t : Thresholds) (h : Hours) (m : ℕ) → NoneYet (madeOf t h m .after)

@@ -5,7 +5,7 @@ ghost use lib.ListN.{length, take};
 ghost use Rattle.measures.specs.Bar.{barsOf};
 ghost use Rattle.recognisers.specs.declared.call.Verdict.the-variants.{Accepted, Denied};
 ghost use Rattle.bar_box.specs.Sheet.{rowsOf, overlay};
-ghost use Rattle.bar_box.specs.Box.{kept, takenIn, feedVerdict, leaves};
+ghost use Rattle.bar_box.specs.Box.{kept, takenIn, feedVerdict};
 ghost use Rattle.terms.specs.Events.{endedOf, minutesOf};
 ghost use Rattle.terms.specs.Layer.{standardLayer, taken, madeOf, ranOf, ranSheet, closedOf, closedSheet};
 ghost use Rattle.terms.specs.Passing.{Ready, progressOf};
@@ -83,16 +83,6 @@ fn take_bars(
     }
 }
 
-// How many of the lent bars are taken in: all, or none if the run is refused.
-fn accepted(v: Verdict, n: usize) -> usize
-    ensures { λ r. ⌜ r ≡ leaves v 0 n ⌝ }
-{
-    match v {
-        Verdict::Accepted => n,
-        Verdict::Denied(_) => 0,
-    }
-}
-
 // Takes a run of bars in, one stamp a bar, and writes a row for each term bar that ended, or refuses and leaves layer and sheet as they
 // were: a refused run takes no bar. Where no term bar ends the box is copied once.
 pub fn run(l: Layer, prices: &[f64], stamps: &[u32], sheet: &mut [u8]) -> Taken
@@ -112,7 +102,7 @@ pub fn run(l: Layer, prices: &[f64], stamps: &[u32], sheet: &mut [u8]) -> Taken
         stamps,
         sheet.len(),
     );
-    let n = accepted(verdict, stamps.len());
+    let n = bar_box::feeds::taken(verdict, stamps.len());
     let front = events::join_front(h, m, c, prices, stamps, n);
     let carried = front.carried;
     if front.passed == n {

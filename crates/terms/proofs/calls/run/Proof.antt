@@ -17,8 +17,8 @@ use Rattle.terms.proofs.calls.run.Tie as tie
 run-verdict-requires : tie.Need-run-verdict-requires
 run-verdict-requires c κs = search needs
 
-accepted-requires : tie.Need-accepted-requires
-accepted-requires c κs = search needs
+taken-requires : tie.Need-taken-requires
+taken-requires c κs = search needs
 
 join-front-requires : tie.Need-join-front-requires
 join-front-requires c κs =
@@ -28,7 +28,7 @@ join-front-requires c κs =
     let ps = args .prices .now in
     let ss = args .stamps .now in
     let sheet = args .sheet .now in
-    let n = c .accepted .ensures in (
+    let n = c .taken .ensures in (
       omega (arith, n, lent-few (call .run-verdict .result) (length ss)),
       λ some.
           let e = sym (call .run-verdict .ensures) ∙ some-taken (call .run-verdict .result) (length ss) (omega (arith, n)) in
@@ -48,7 +48,7 @@ returns c =
     let v = call .run-verdict .result in
     let k = front .join-front .result .passed in
     let within = front .join-front .ensures .within in
-    let n = counted .accepted .ensures in
+    let n = counted .taken .ensures in
     let few = lent-few v (length ss) in
     let all : length (args .l .inner .bars) ≡ 64 = simp length-map at (start .good .0 .1 .1 .0 .1 .1 .1 .1 .0 .1 .0 .1) in
     let whole : k ≡ leaves v 0 (length ss) = c .if1 .taken ∙ n in
@@ -70,7 +70,7 @@ mul-first c =
     let v = call .run-verdict .result in
     let k = front .join-front .result .passed in
     let within = front .join-front .ensures .within in
-    let n = counted .accepted .ensures in
+    let n = counted .taken .ensures in
     let few = lent-few v (length ss) in
     let other = c .before .if1 .left in
     let some : 1 ≤ leaves v 0 (length ss) = omega arith in
@@ -92,7 +92,7 @@ mul-take-bars c =
     let v = call .run-verdict .result in
     let k = front .join-front .result .passed in
     let within = front .join-front .ensures .within in
-    let n = counted .accepted .ensures in
+    let n = counted .taken .ensures in
     let few = lent-few v (length ss) in
     let other = c .before .before .if1 .left in
     let some : 1 ≤ leaves v 0 (length ss) = omega arith in
@@ -114,7 +114,7 @@ sub-take-bars c =
     let v = call .run-verdict .result in
     let k = front .join-front .result .passed in
     let within = front .join-front .ensures .within in
-    let n = counted .accepted .ensures in
+    let n = counted .taken .ensures in
     let few = lent-few v (length ss) in
     let other = c .before .before .if1 .left in
     let some : 1 ≤ leaves v 0 (length ss) = omega arith in
@@ -136,7 +136,7 @@ part-take-bars-start c =
     let v = call .run-verdict .result in
     let k = front .join-front .result .passed in
     let within = front .join-front .ensures .within in
-    let n = counted .accepted .ensures in
+    let n = counted .taken .ensures in
     let few = lent-few v (length ss) in
     let other = c .before .before .if1 .left in
     let some : 1 ≤ leaves v 0 (length ss) = omega arith in
@@ -161,7 +161,7 @@ mul-take-bars-2 c =
     let v = call .run-verdict .result in
     let k = front .join-front .result .passed in
     let within = front .join-front .ensures .within in
-    let n = counted .accepted .ensures in
+    let n = counted .taken .ensures in
     let few = lent-few v (length ss) in
     let other = c .before .before .before .if1 .left in
     let some : 1 ≤ leaves v 0 (length ss) = omega arith in
@@ -183,7 +183,7 @@ sub-take-bars-2 c =
     let v = call .run-verdict .result in
     let k = front .join-front .result .passed in
     let within = front .join-front .ensures .within in
-    let n = counted .accepted .ensures in
+    let n = counted .taken .ensures in
     let few = lent-few v (length ss) in
     let other = c .before .before .before .if1 .left in
     let some : 1 ≤ leaves v 0 (length ss) = omega arith in
@@ -205,7 +205,7 @@ part-take-bars-start-2 c =
     let v = call .run-verdict .result in
     let k = front .join-front .result .passed in
     let within = front .join-front .ensures .within in
-    let n = counted .accepted .ensures in
+    let n = counted .taken .ensures in
     let few = lent-few v (length ss) in
     let other = c .before .before .before .if1 .left in
     let some : 1 ≤ leaves v 0 (length ss) = omega arith in
@@ -230,7 +230,7 @@ take-bars-requires c κs =
     let v = call .run-verdict .result in
     let k = front .join-front .result .passed in
     let within = front .join-front .ensures .within in
-    let n = counted .accepted .ensures in
+    let n = counted .taken .ensures in
     let few = lent-few v (length ss) in
     let other = c .before .before .before .before .before .if1 .left in
     let some : 1 ≤ leaves v 0 (length ss) = omega arith in
@@ -260,7 +260,7 @@ returns-2 c =
     let v = call .run-verdict .result in
     let k = front .join-front .result .passed in
     let within = front .join-front .ensures .within in
-    let n = counted .accepted .ensures in
+    let n = counted .taken .ensures in
     let few = lent-few v (length ss) in
     let other = c .before .before .before .before .before .before .before .before .before .before .if1 .left in
     let some : 1 ≤ leaves v 0 (length ss) = omega arith in
@@ -283,7 +283,7 @@ run-spec =
     tie.close
     (tie.spec
     run-verdict-requires
-    accepted-requires
+    taken-requires
     join-front-requires
     returns
     mul-first
