@@ -1,34 +1,40 @@
--- What a run takes in: nothing of a refused one; of an accepted one first the bars that end no term bar, and then the others. Assumes nothing.
+-- What the calls take in, as the code goes by the verdict: nothing of a refused one; of an accepted run first the bars that end no term bar, and
+-- then the others; of an accepted close the open bar. And what making leaves. Assumes nothing.
 use Prim.Native.Nat.{ℕ, _-_, _*_, _≤_, _<_}
 use mathlib.Core.Path.{_≡_, refl, ap, sym, _∙_}
-use mathlib.Core.List.{List, []}
+use mathlib.Core.List.{List, [], _∷_}
 use native.Mathlib.Omega.{arith}
+use borrow.Author.Tests.{not-false}
 use lib.ListN.{length, take, drop, length-drop, take-append-drop}
 use lib.Seq.{take-all}
 use lib.Ieee.{Float}
-use Rattle.measures.specs.Bar.{barsOf}
+use Rattle.measures.specs.Bar.{Bar, barsOf}
 use Rattle.measures.proofs.RunLaws.{length-bars, bars-drop}
 use Rattle.recognisers.specs.Number.{places}
 use Rattle.recognisers.specs.declared.call.Verdict.{Verdict}
 use Rattle.recognisers.specs.declared.call.Verdict.the-variants.{Accepted, Denied}
 use Rattle.bar_box.specs.Sheet.{rowsOf, overlay}
-use Rattle.bar_box.specs.Box.{takenIn, leaves, feedVerdict}
+use Rattle.bar_box.specs.Box.{takenIn, leaves, feedVerdict, madeOf as boxMade}
 use Rattle.bar_box.specs.History.{pricesOf}
 use Rattle.bar_box.proofs.Overlay.{overlay-none}
 use Rattle.bar_box.proofs.BoxLaws.{taken-none}
 use Rattle.bar_box.proofs.FeedSteps.{fits, accepts}
-use Rattle.bar_box.proofs.PartLaws.{rowsFrom}
+use Rattle.bar_box.proofs.PartLaws.{rowsFrom, made-valid}
 use Rattle.trading_hours.specs.declared.hours.Hours.{Hours}
 use Rattle.trading_hours.proofs.HourLaws.{term-some}
 use Rattle.terms.specs.declared.events.Carried.{Carried}
 use Rattle.terms.specs.declared.layers.Layer.{Layer}
-use Rattle.terms.specs.Events.{Event, endedOf, carriedOf, minutesOf}
-use Rattle.terms.specs.Layer.{layerWith, runVerdictOf, endedIn, taken, takenOf, takenSheet, ranOf, ranSheet}
+use Rattle.terms.specs.Events.{Event, endedOf, carriedOf, minutesOf, Close, nothingYet, carriedWith, barsIn}
+use Rattle.terms.specs.Layer.{layerWith, runVerdictOf, endedIn, taken, takenOf, takenSheet, ranOf, ranSheet, wholeDay, makeVerdict, madeBy, madeOf, closeVerdictOf, closedOf, closedSheet}
 use Rattle.terms.specs.Passing.{Ready, progressOf}
-use Rattle.terms.proofs.EventLaws.{carried-append, ended-append, ended-few, length-minutes}
-use Rattle.terms.proofs.FeedLaws.{bars-accepted}
-use Rattle.terms.proofs.CallLaws.{run-meets, taken-is, sheet-is}
+use Rattle.terms.proofs.EventLaws.{carried-append, ended-append, ended-few, length-minutes, few-in, ended-one}
+use Rattle.terms.proofs.FeedLaws.{bars-accepted, few-accepted, some-room}
+use Rattle.terms.proofs.CallLaws.{run-meets, taken-is, sheet-is, none-true, close-meets}
 use Rattle.terms.proofs.PassingLaws.{minutes-drop, ready-after}
+use Rattle.recognisers.specs.Threshold.{Thresholds, standardSet}
+use Rattle.bar_box.proofs.Demand3.{standard-valid}
+use Rattle.trading_hours.specs.Hours.{withZeros}
+use Rattle.terms.specs.declared.events.OpenBar.the-variants.{Nothing}
 
 -- a run of which some bar is taken in is accepted
 pub some-taken : (v : Verdict) (n : ℕ) → 1 ≤ leaves v 0 n → v ≡ Accepted
@@ -139,3 +145,39 @@ module _ (l : Layer) (ps : List Float) (ss sheet : List ℕ) where
         let none-written : overlay sheet 0 (rowsFrom (l .inner) (endedIn l events)) ≡ sheet = rw quiet (overlay-none sheet 0) in
         (rw whole (same ∙ ran-is e), sym none-written ∙ ran-sheet-is e)
     quiet-run (Denied r) e none = (rw e, rw e)
+
+-- ---- making, as the code goes by the verdict
+
+pub made-is : (t : Thresholds) (h : Hours) (m : ℕ) (v : Verdict) → makeVerdict t h m ≡ v
+    → taken v 0 (layerWith (leaves v wholeDay (withZeros h)) (leaves v 5 m) nothingYet (boxMade (leaves v standardSet t) .after)) ≡ madeOf t h m
+unfolding madeOf makeVerdict
+made-is t h m Accepted e = rw (made-valid t (not-false _ (none-true _ _ e .0))) (ap (λ (v : Verdict). taken v 0 (madeBy v t h m)) (sym e))
+made-is t h m (Denied r) e = rw (made-valid standardSet standard-valid) (ap (λ (v : Verdict). taken v 0 (madeBy v t h m)) (sym e))
+
+-- ---- a close, as the code goes by the verdict: a refused one ends nothing
+
+module _ (l : Layer) (sheet : List ℕ) (all : length (l .inner .bars) ≡ places) where
+  abbrev pub closing : Verdict → List Bar
+  closing v = barsIn (leaves v Nothing (l .carried .pending))
+
+  -- where something ends the box's own feed is accepted, and the sheet has room for a row
+  pub close-fits : (v : Verdict) → closeVerdictOf l (length sheet) ≡ v
+      → (1 ≤ length (closing v) → feedVerdict (l .inner .thresholds) (l .inner .count) (4 * length (closing v)) (36 * length (closing v)) ≡ Accepted) × (36 * length (closing v) ≤ length sheet)
+  close-fits Accepted e =
+      let met = close-meets _ _ _ _ _ _ e in
+      let few = few-in (l .carried .pending) in
+      (λ some. few-accepted _ _ _ _ (met .feed) (length (closing Accepted)) (omega arith), omega (arith, some-room _ _ _ _ (met .feed) 0 (length (closing Accepted)) (omega arith)))
+  close-fits (Denied r) e = (λ some. absurd (let z : ⊥ = omega arith in z), omega arith)
+
+  pub closed-is : (v : Verdict) → closeVerdictOf l (length sheet) ≡ v
+      → (taken v (length (closing v)) (layerWith (l .hours) (l .minutes) (leaves v (l .carried) (carriedWith (l .carried .last) Nothing)) (takenIn (l .inner) (closing v))) ≡ closedOf l (length sheet))
+      × (overlay sheet 0 (rowsFrom (l .inner) (closing v)) ≡ closedSheet l sheet)
+  unfolding closedOf closedSheet carriedOf rowsOf
+  closed-is Accepted e =
+      let es = Close ∷ [] in
+      let ended : endedIn l es ≡ closing Accepted = ended-one (l .hours) (l .minutes) (l .carried) Close in
+      let met = close-meets _ _ _ _ _ _ e in
+      let few = few-in (l .carried .pending) in
+      let feed = bars-accepted _ _ _ _ (met .feed) (endedIn l es) (rw ended (omega arith)) in
+      (rw (← ended) (taken-is l es sheet feed ∙ ap (λ (v : Verdict). takenOf v l es (length sheet)) (sym e)), rw (← ended) (sym (sheet-is l es sheet feed) ∙ ap (λ (v : Verdict). takenSheet v l es sheet) (sym e)))
+  closed-is (Denied r) e = (rw (taken-none (l .inner) all, e), rw e (overlay-none sheet 0))

@@ -3,31 +3,26 @@ ghost use mathlib.Core.Path.{_≡_};
 ghost use Prim.Native.Nat.{_+_, _*_, _≤_};
 ghost use lib.ListN.{length, take};
 ghost use Rattle.measures.specs.Bar.{barsOf};
-ghost use Rattle.recognisers.specs.declared.call.Verdict.the-variants.{Accepted, Denied};
+ghost use Rattle.recognisers.specs.declared.call.Verdict.the-variants.{Accepted};
 ghost use Rattle.bar_box.specs.Sheet.{rowsOf, overlay};
 ghost use Rattle.bar_box.specs.Box.{kept, takenIn, feedVerdict};
 ghost use Rattle.terms.specs.Events.{endedOf, minutesOf};
-ghost use Rattle.terms.specs.Layer.{standardLayer, taken, madeOf, ranOf, ranSheet, closedOf, closedSheet};
+ghost use Rattle.terms.specs.Layer.{madeOf, ranOf, ranSheet, closedOf, closedSheet};
 ghost use Rattle.terms.specs.Passing.{Ready, progressOf};
 use crate::events;
 use crate::events::Carried;
-use crate::events::LastStamp;
-use crate::events::OpenBar;
 use crate::layers;
 use crate::layers::Layer;
 use crate::layers::Taken;
 use crate::verdicts;
 use bar_box::BarBox;
 use recognisers::Thresholds;
-use recognisers::call::Refusal;
-use recognisers::call::Verdict;
 use recognisers::counts::ROW_BYTES;
 use trading_hours::Hours;
-use trading_hours::hours;
 
 // Feeds the first n bars of a run of prices; their rows go to a row of the sheet and those after it.
 fn feed_front(b: BarBox, run: &[f64], n: usize, sheet: &mut [u8], row: usize) -> BarBox
-    requires { ⌜ (feedVerdict (b .thresholds) (b .count) (4 * n) (36 * n) ≡ Accepted) × ((4 * n ≤ length (now run)) × (36 * (row + n) ≤ length (now sheet))) ⌝ }
+    requires { ⌜ (1 ≤ n → feedVerdict (b .thresholds) (b .count) (4 * n) (36 * n) ≡ Accepted) × ((4 * n ≤ length (now run)) × (36 * (row + n) ≤ length (now sheet))) ⌝ }
     ensures { λ r. ⌜ (r ≡ takenIn b (barsOf (take (4 * n) (now (run .entry))))) × (now (sheet .exit) ≡ overlay (now (sheet .entry)) (36 * row) (rowsOf (b .thresholds) (b .count) (kept b) (barsOf (take (4 * n) (now (run .entry)))))) ⌝ }
 {
     if n == 0 {
@@ -132,53 +127,32 @@ pub fn run(l: Layer, prices: &[f64], stamps: &[u32], sheet: &mut [u8]) -> Taken
     }
 }
 
-// Ends the open term, if there is one, and writes its bar's row, or refuses and leaves layer and sheet as they were.
+// Ends the open term, if there is one, and writes its bar's row, or refuses and leaves layer and sheet as they were: a refused close ends no
+// term bar.
 pub fn close(l: Layer, sheet: &mut [u8]) -> Taken
     ensures { λ r. ⌜ (r ≡ closedOf l (length (now (sheet .entry)))) × (now (sheet .exit) ≡ closedSheet l (now (sheet .entry))) ⌝ }
 {
-    let h = l.hours;
-    let m = l.minutes;
     let c = l.carried;
+    let h = l.hours;
+    let verdict = verdicts::close_verdict(
+        l.inner.thresholds,
+        h,
+        l.minutes,
+        c,
+        l.inner.count,
+        sheet.len(),
+    );
+    let pending = c.pending;
+    let mut run = [0.0; 4];
+    let rows = events::put_ended(events::ended_by(verdict, pending), &mut run, 0);
     let b = l.inner;
-    match verdicts::close_verdict(b.thresholds, h, m, c, b.count, sheet.len()) {
-        Verdict::Denied(why) => Taken {
-            after: l,
-            rows: 0,
-            verdict: Verdict::Denied(why),
-        },
-        Verdict::Accepted => {
-            let mut run = [0.0; 4];
-            let last = c.last;
-            let pending = c.pending;
-            let rows = events::put_ended(pending, &mut run, 0);
-            let inner = feed_front(b, &run, rows, sheet, 0);
-            Taken {
-                after: Layer {
-                    inner,
-                    carried: Carried {
-                        last,
-                        pending: OpenBar::Nothing,
-                    },
-                    hours: h,
-                    minutes: m,
-                },
-                rows,
-                verdict: Verdict::Accepted,
-            }
-        }
-    }
-}
-
-// A refused making.
-fn refuse_making(why: Refusal) -> Taken
-    ensures { λ r. ⌜ r ≡ taken (Denied why) 0 standardLayer ⌝ }
-{
-    let made = bar_box::make(Thresholds::standard());
-    let inner = made.after;
+    let mut after = l;
+    after.inner = feed_front(b, &run, rows, sheet, 0);
+    after.carried = events::closed_by(verdict, c);
     Taken {
-        after: layers::fresh(layers::whole_day(), 5, inner),
-        rows: 0,
-        verdict: Verdict::Denied(why),
+        after,
+        rows,
+        verdict,
     }
 }
 
@@ -187,23 +161,16 @@ fn refuse_making(why: Refusal) -> Taken
 pub fn make(t: Thresholds, h: Hours, m: u32) -> Taken
     ensures { λ r. ⌜ r ≡ madeOf t h m ⌝ }
 {
-    let valid = t.is_valid();
-    if !valid {
-        return refuse_making(Refusal::BadThreshold);
-    }
-    let none = Carried {
-        last: LastStamp::Never,
-        pending: OpenBar::Nothing,
-    };
-    let whole = verdicts::layer_valid(h, m, none);
-    if !whole {
-        return refuse_making(Refusal::BadLayer);
-    }
-    let made = bar_box::make(t);
+    let verdict = verdicts::make_verdict(t, h, m);
+    let made = bar_box::make(layers::thresholds_by(verdict, t));
     let inner = made.after;
     Taken {
-        after: layers::fresh(hours::with_zeros(h), m, inner),
+        after: layers::fresh(
+            layers::hours_by(verdict, h),
+            layers::minutes_by(verdict, m),
+            inner,
+        ),
         rows: 0,
-        verdict: Verdict::Accepted,
+        verdict,
     }
 }

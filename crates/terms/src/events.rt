@@ -5,15 +5,18 @@ ghost use Prim.Native.Nat.{_+_, _*_, _≤_};
 ghost use lib.ListN.{length, drop};
 ghost use Rattle.measures.specs.Bar.{barsOf};
 ghost use Rattle.bar_box.specs.Sheet.{overlay};
+ghost use Rattle.bar_box.specs.Box.{leaves};
 ghost use Rattle.bar_box.specs.History.{pricesOf};
 ghost use Rattle.trading_hours.specs.Hours.{inHours};
 ghost use Rattle.trading_hours.specs.TermRule.{endOf};
-ghost use Rattle.terms.specs.Events.{joinedBar, stepBy, stepOf, barsIn, minutesOf};
+ghost use Rattle.terms.specs.declared.events.OpenBar.the-variants.{Nothing};
+ghost use Rattle.terms.specs.Events.{carriedWith, joinedBar, stepBy, stepOf, barsIn, minutesOf};
 ghost use Rattle.terms.specs.Layer.{above};
 ghost use Rattle.terms.specs.Passing.{endAfter, EndKnown, Ready, FilledBy, someIn, JoinedBy};
 use measures::Bar;
 use measures::max;
 use measures::min;
+use recognisers::call::Verdict;
 use trading_hours::Hours;
 use trading_hours::hours;
 
@@ -142,6 +145,30 @@ pub(crate) fn put_ended(ended: OpenBar, run: &mut [f64], place: usize) -> usize
             run[at + 3] = b.low;
             1
         }
+    }
+}
+
+// The term bar that a close ends, by its verdict: the open one, or none if it is refused.
+pub(crate) fn ended_by(v: Verdict, pending: OpenBar) -> OpenBar
+    ensures { λ r. ⌜ r ≡ leaves v Nothing pending ⌝ }
+{
+    match v {
+        Verdict::Accepted => pending,
+        Verdict::Denied(_) => OpenBar::Nothing,
+    }
+}
+
+// What is carried on after a close, by its verdict: the stamp and nothing open, or all if it is refused.
+pub(crate) fn closed_by(v: Verdict, c: Carried) -> Carried
+    ensures { λ r. ⌜ r ≡ leaves v c (carriedWith (c .last) Nothing) ⌝ }
+{
+    let last = c.last;
+    match v {
+        Verdict::Accepted => Carried {
+            last,
+            pending: OpenBar::Nothing,
+        },
+        Verdict::Denied(_) => c,
     }
 }
 

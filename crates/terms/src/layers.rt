@@ -1,14 +1,19 @@
 // The layer.
 ghost use mathlib.Core.Path.{_≡_};
+ghost use Rattle.recognisers.specs.Threshold.{standardSet};
+ghost use Rattle.bar_box.specs.Box.{leaves};
+ghost use Rattle.trading_hours.specs.Hours.{withZeros};
 ghost use Rattle.terms.specs.Events.{nothingYet};
 ghost use Rattle.terms.specs.Layer.{layerWith, wholeDay};
 use crate::events::Carried;
 use crate::events::LastStamp;
 use crate::events::OpenBar;
 use bar_box::BarBox;
+use recognisers::Thresholds;
 use recognisers::call::Verdict;
 use trading_hours::DayWindow;
 use trading_hours::Hours;
+use trading_hours::hours;
 
 // The box of the term bars, the last stamp and the open term bar, the hours, and the term length in minutes.
 pub struct Layer {
@@ -26,7 +31,7 @@ pub struct Taken {
 }
 
 // One window from 0 to 1,440.
-pub(crate) fn whole_day() -> Hours
+fn whole_day() -> Hours
     ensures { λ r. ⌜ r ≡ wholeDay ⌝ }
 {
     let all = DayWindow { from: 0, to: 1440 };
@@ -34,6 +39,34 @@ pub(crate) fn whole_day() -> Hours
     Hours {
         windows: [all, none, none, none],
         count: 1,
+    }
+}
+
+// The thresholds, hours and term length of a making by its verdict: those asked for, or those of a refused one.
+pub(crate) fn thresholds_by(v: Verdict, t: Thresholds) -> Thresholds
+    ensures { λ r. ⌜ r ≡ leaves v standardSet t ⌝ }
+{
+    match v {
+        Verdict::Accepted => t,
+        Verdict::Denied(_) => Thresholds::standard(),
+    }
+}
+
+pub(crate) fn hours_by(v: Verdict, h: Hours) -> Hours
+    ensures { λ r. ⌜ r ≡ leaves v wholeDay (withZeros h) ⌝ }
+{
+    match v {
+        Verdict::Accepted => hours::with_zeros(h),
+        Verdict::Denied(_) => whole_day(),
+    }
+}
+
+pub(crate) fn minutes_by(v: Verdict, m: u32) -> u32
+    ensures { λ r. ⌜ r ≡ leaves v 5 m ⌝ }
+{
+    match v {
+        Verdict::Accepted => m,
+        Verdict::Denied(_) => 5,
     }
 }
 

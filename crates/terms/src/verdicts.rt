@@ -1,7 +1,7 @@
-// Why a run or a close is refused.
+// Why a making, a run or a close is refused.
 ghost use mathlib.Core.Path.{_≡_};
 ghost use Rattle.recognisers.specs.Refusal.{firstTrue};
-ghost use Rattle.terms.specs.Layer.{soundCarried, validLayer, above, stampsTried, runVerdict, closeVerdict};
+ghost use Rattle.terms.specs.Layer.{soundCarried, validLayer, above, stampsTried, makeVerdict, runVerdict, closeVerdict};
 ghost use Rattle.terms.specs.Passing.{endAfter, EndKnown};
 use crate::events;
 use crate::events::Carried;
@@ -35,6 +35,25 @@ pub fn layer_valid(h: Hours, m: u32, c: Carried) -> bool
     let last = c.last;
     let pending = c.pending;
     hours::hours_valid(h) & hours::term_length(m) & sound(h, last, pending)
+}
+
+// The first of the refusals 3 and 12 that is true of a making.
+pub fn make_verdict(t: Thresholds, h: Hours, m: u32) -> Verdict
+    ensures { λ r. ⌜ r ≡ makeVerdict t h m ⌝ }
+{
+    let valid = t.is_valid();
+    if !valid {
+        return Verdict::Denied(Refusal::BadThreshold);
+    }
+    let none = Carried {
+        last: LastStamp::Never,
+        pending: OpenBar::Nothing,
+    };
+    let whole = layer_valid(h, m, none);
+    if !whole {
+        return Verdict::Denied(Refusal::BadLayer);
+    }
+    Verdict::Accepted
 }
 
 // Whether a stamp is above the last one.

@@ -62,7 +62,7 @@ feed-front-requires c κs =
     let by = rw (inv .3) at (filled .fill .ensures) in
     let part = part-fits (args .h) (args .m) (args .c) (args .prices .now) (args .stamps .now) (pre .1) _ _ _ (pre .2) (at-loop .loop .done) (inside .loop-test .taken) _ (filled .fill .result) by in
     let size = filled .fill .kept .1 .1 .1 .1 .1 .1 .0 in
-    (rw (inv .4) (part .accepted), (omega (arith, by .few), omega (arith, part .room)))
+    (λ some. rw (inv .4) (part .accepted), (omega (arith, by .few), omega (arith, part .room)))
 
 add-rows : tie.Need-add-rows Inv-loop μ-loop
 add-rows c =
