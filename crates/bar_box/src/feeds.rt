@@ -111,12 +111,12 @@ fn take_in(b: BarBox, prices: &[f64], sheet: &mut [u8]) -> BarBox
     after
 }
 
-// How many of the lent prices, or bars, a call takes in: all, or none if it is refused.
-pub fn taken(v: Verdict, lent: usize) -> usize
-    ensures { λ r. ⌜ r ≡ leaves v 0 lent ⌝ }
+// How many of the lent prices are taken in: all, or none if the feed is refused.
+pub fn taken(v: Verdict, prices: usize) -> usize
+    ensures { λ r. ⌜ r ≡ leaves v 0 prices ⌝ }
 {
     match v {
-        Verdict::Accepted => lent,
+        Verdict::Accepted => prices,
         Verdict::Denied(_) => 0,
     }
 }
