@@ -4,7 +4,6 @@
 
 mod counts;
 mod judge;
-mod options;
 mod ordinal;
 mod refused;
 mod sheet;
@@ -14,14 +13,14 @@ mod trial;
 mod work;
 
 use judge::{Difference, Judge};
-use options::Options;
+use parts::Histories;
 use std::process::ExitCode;
 use std::time::Instant;
 use tally::Tally;
 use work::Work;
 
 fn main() -> ExitCode {
-    match Options::from_arguments().and_then(|options| compare(&options)) {
+    match Histories::from_arguments("feeds").and_then(|options| compare(&options)) {
         Ok(()) => ExitCode::SUCCESS,
         Err(message) => {
             eprintln!("feeds: {message}");
@@ -30,7 +29,7 @@ fn main() -> ExitCode {
     }
 }
 
-fn compare(options: &Options) -> Result<(), String> {
+fn compare(options: &Histories) -> Result<(), String> {
     println!("seed {}, {} histories", options.seed, options.histories);
     let start = Instant::now();
     let (judges, difference) = parts::run(&work::all(options), Judge::new, Work::run);

@@ -1,7 +1,6 @@
 //! The parts of a run. Each is small, so that the threads end together.
 
 use crate::judge::{self, Difference, Judge};
-use crate::options::Options;
 use crate::trial::Trial;
 use crate::{refused, text};
 use inputs::families::PIECES;
@@ -10,6 +9,7 @@ use inputs::looks::Look;
 use inputs::rng::Rng;
 use inputs::{Case, known, walk};
 use jcc_types::{Bar, KEPT, MAX_BARS, MOST_OFFSET};
+use parts::Histories;
 
 /// The histories in a part.
 const PART: u64 = 20;
@@ -39,7 +39,7 @@ pub enum Work {
 }
 
 /// All parts of a run, those that are always the same first.
-pub fn all(options: &Options) -> Vec<Work> {
+pub fn all(options: &Histories) -> Vec<Work> {
     let seed = options.seed;
     let mut parts = vec![Work::Known, Work::Refusals, Work::MostBars];
     parts.extend(LENGTHS.map(|length| Work::AllLooks { length, seed }));

@@ -2,7 +2,7 @@
 
 mod options;
 
-pub use options::numbers;
+pub use options::{Histories, numbers};
 
 use std::sync::Mutex;
 use std::sync::atomic::{AtomicBool, AtomicUsize, Ordering};

@@ -17,3 +17,21 @@ pub fn numbers<const N: usize>(
     }
     Ok(options.map(|(_, number)| number))
 }
+
+/// The options of a comparison over random histories.
+pub struct Histories {
+    pub seed: u64,
+    /// How many there are.
+    pub histories: u64,
+}
+
+impl Histories {
+    /// Those that the program of this name is given.
+    pub fn from_arguments(program: &str) -> Result<Histories, String> {
+        let arguments = std::env::args().skip(1);
+        let known = [("--seed", 1), ("--histories", 20_000)];
+        let usage = format!("{program} [--seed N] [--histories N]");
+        let [seed, histories] = numbers(arguments, known, &usage)?;
+        Ok(Histories { seed, histories })
+    }
+}

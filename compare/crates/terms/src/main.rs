@@ -9,7 +9,6 @@ mod limit;
 mod lists;
 mod makings;
 mod noted;
-mod options;
 mod recut;
 mod seen;
 mod stamps;
@@ -18,14 +17,14 @@ mod trial;
 mod work;
 
 use judge::{Difference, Judge};
-use options::Options;
+use parts::Histories;
 use seen::Seen;
 use std::process::ExitCode;
 use std::time::Instant;
 use work::Work;
 
 fn main() -> ExitCode {
-    match Options::from_arguments().and_then(|options| compare(&options)) {
+    match Histories::from_arguments("terms").and_then(|options| compare(&options)) {
         Ok(()) => ExitCode::SUCCESS,
         Err(message) => {
             eprintln!("terms: {message}");
@@ -34,7 +33,7 @@ fn main() -> ExitCode {
     }
 }
 
-fn compare(options: &Options) -> Result<(), String> {
+fn compare(options: &Histories) -> Result<(), String> {
     println!("seed {}, {} histories", options.seed, options.histories);
     let start = Instant::now();
     let (judges, difference) = parts::run(&work::all(options), Judge::new, Work::run);

@@ -1,7 +1,6 @@
 //! The parts of a run. Each is small, so that the threads end together.
 
 use crate::judge::{Difference, Judge};
-use crate::options::Options;
 use crate::stamps::Clock;
 use crate::trial::Trial;
 use crate::{examples, limit, lists, makings};
@@ -9,6 +8,7 @@ use inputs::families::PIECES;
 use inputs::rng::Rng;
 use inputs::walk;
 use jcc_types::{Bar, MAX_BARS, Thresholds};
+use parts::Histories;
 use terms_model::MINUTES;
 
 /// The histories in a part.
@@ -38,7 +38,7 @@ pub enum Work {
 }
 
 /// All parts of a run, those that are always the same first.
-pub fn all(options: &Options) -> Vec<Work> {
+pub fn all(options: &Histories) -> Vec<Work> {
     let seed = options.seed;
     let mut parts = vec![Work::Examples, Work::Makings];
     parts.extend((0..limit::LISTS).map(Work::Limit));
