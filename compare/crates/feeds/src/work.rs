@@ -3,16 +3,13 @@
 use crate::judge::{self, Difference, Judge};
 use crate::trial::Trial;
 use crate::{refused, text};
-use inputs::families::PIECES;
+use inputs::families::{self, PIECES, Share};
 use inputs::histories::{self, LENGTHS};
 use inputs::looks::Look;
 use inputs::rng::Rng;
 use inputs::{Case, known, walk};
 use jcc_types::{Bar, KEPT, MAX_BARS, MOST_OFFSET};
 use parts::Histories;
-
-/// The histories in a part.
-const PART: u64 = 20;
 
 /// Streams of random numbers, beside those of the families.
 const LOOKS: u64 = PIECES.len() as u64;
@@ -30,12 +27,7 @@ pub enum Work {
         seed: u64,
     },
     /// Some histories of a family in many cuts, and looks.
-    Random {
-        family: usize,
-        part: u64,
-        count: u64,
-        seed: u64,
-    },
+    Random(Share),
 }
 
 /// All parts of a run, those that are always the same first.
@@ -43,15 +35,7 @@ pub fn all(options: &Histories) -> Vec<Work> {
     let seed = options.seed;
     let mut parts = vec![Work::Known, Work::Refusals, Work::MostBars];
     parts.extend(LENGTHS.map(|length| Work::AllLooks { length, seed }));
-    for (family, f) in PIECES.iter().enumerate() {
-        let count = (options.histories * f.percent).div_ceil(100);
-        parts.extend((0..count.div_ceil(PART)).map(|part| Work::Random {
-            family,
-            part,
-            count: PART.min(count - part * PART),
-            seed,
-        }));
-    }
+    parts.extend(families::shares(options.histories, seed).map(Work::Random));
     parts
 }
 
@@ -62,14 +46,9 @@ impl Work {
             Work::Refusals => refused::all(&mut judge.tally, &walk(MAX_BARS + 1)),
             Work::MostBars => most_bars(judge),
             Work::AllLooks { length, seed } => all_looks(judge, length, seed),
-            Work::Random {
-                family,
-                part,
-                count,
-                seed,
-            } => {
-                let mut rng = Rng::stream(seed, family as u64, part);
-                (0..count).try_for_each(|_| random_history(judge, family, &mut rng))
+            Work::Random(share) => {
+                let mut rng = share.rng();
+                (0..share.count).try_for_each(|_| random_history(judge, share.family, &mut rng))
             }
         }
     }

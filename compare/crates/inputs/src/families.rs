@@ -273,3 +273,34 @@ pub fn random_tenths(rng: &mut Rng) -> u32 {
         _ => rng.between(0, MOST as usize) as u32,
     }
 }
+
+/// The histories in a share.
+const SHARE: u64 = 20;
+
+/// Some of the random histories of a family in [`PIECES`], with a stream of random numbers of their own.
+#[derive(Clone, Copy)]
+pub struct Share {
+    pub family: usize,
+    pub count: u64,
+    number: u64,
+    seed: u64,
+}
+
+impl Share {
+    pub fn rng(&self) -> Rng {
+        Rng::stream(self.seed, self.family as u64, self.number)
+    }
+}
+
+/// So many random histories, each family its part of them.
+pub fn shares(histories: u64, seed: u64) -> impl Iterator<Item = Share> {
+    PIECES.iter().enumerate().flat_map(move |(family, f)| {
+        let all = (histories * f.percent).div_ceil(100);
+        (0..all.div_ceil(SHARE)).map(move |number| Share {
+            family,
+            count: SHARE.min(all - number * SHARE),
+            number,
+            seed,
+        })
+    })
+}

@@ -4,15 +4,12 @@ use crate::judge::{Difference, Judge};
 use crate::stamps::Clock;
 use crate::trial::Trial;
 use crate::{examples, limit, lists, makings};
-use inputs::families::PIECES;
+use inputs::families::{self, PIECES, Share};
 use inputs::rng::Rng;
 use inputs::walk;
 use jcc_types::{Bar, MAX_BARS, Thresholds};
 use parts::Histories;
 use terms_model::MINUTES;
-
-/// The histories in a part.
-const PART: u64 = 20;
 
 /// A stream of random numbers, beside those of the families.
 const LONG: u64 = PIECES.len() as u64;
@@ -29,12 +26,7 @@ pub enum Work {
         seed: u64,
     },
     /// Some lists over bars of a family, and what they accepted in other cuts.
-    Random {
-        family: usize,
-        part: u64,
-        count: u64,
-        seed: u64,
-    },
+    Random(Share),
 }
 
 /// All parts of a run, those that are always the same first.
@@ -43,15 +35,7 @@ pub fn all(options: &Histories) -> Vec<Work> {
     let mut parts = vec![Work::Examples, Work::Makings];
     parts.extend((0..limit::LISTS).map(Work::Limit));
     parts.extend(MINUTES.map(|minutes| Work::Long { minutes, seed }));
-    for (family, f) in PIECES.iter().enumerate() {
-        let count = (options.histories * f.percent).div_ceil(100);
-        parts.extend((0..count.div_ceil(PART)).map(|part| Work::Random {
-            family,
-            part,
-            count: PART.min(count - part * PART),
-            seed,
-        }));
-    }
+    parts.extend(families::shares(options.histories, seed).map(Work::Random));
     parts
 }
 
@@ -62,15 +46,10 @@ impl Work {
             Work::Makings => makings::all(judge),
             Work::Limit(number) => limit::list(judge, number),
             Work::Long { minutes, seed } => long(judge, minutes, seed),
-            Work::Random {
-                family,
-                part,
-                count,
-                seed,
-            } => {
-                let mut rng = Rng::stream(seed, family as u64, part);
-                (0..count).try_for_each(|_| {
-                    let trial = lists::random(&mut rng, &PIECES[family]);
+            Work::Random(share) => {
+                let mut rng = share.rng();
+                (0..share.count).try_for_each(|_| {
+                    let trial = lists::random(&mut rng, &PIECES[share.family]);
                     judge.try_list(trial, &mut rng)
                 })
             }
