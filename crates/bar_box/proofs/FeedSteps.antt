@@ -36,7 +36,7 @@ pub record Fits (t : Thresholds) (n prices sheet : ℕ) : Type 0 where
   pub room : rowBytes * (prices / 4) ≤ sheet
 
 -- where no refusal is true, the first is not and none of the others is
-none-true : (x : Tried) (xs : List Tried) → firstTrue (x ∷ xs) ≡ Accepted → (x .met ≡ false) × (firstTrue xs ≡ Accepted)
+pub none-true : (x : Tried) (xs : List Tried) → firstTrue (x ∷ xs) ≡ Accepted → (x .met ≡ false) × (firstTrue xs ≡ Accepted)
 unfolding firstTrue
 none-true x xs = go (x .met) refl
   where

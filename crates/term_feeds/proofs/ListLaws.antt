@@ -20,10 +20,7 @@ module _ {A : Type 0} where
   pub left-is : (xs : List A) (p k : ℕ) → drop k (drop p xs) ≡ drop (min (p + k) (length xs)) xs
   left-is xs p k = drop-drop k p xs ∙ drop-same xs (p + k) (min (p + k) (length xs)) (omega arith)
 
-  -- the rest of a list, and another rest in its place
-  pub rest-is : (xs : List A) (at : ℕ) → take (length xs - at) (drop at xs) ≡ drop at xs
-  rest-is xs at = take-all (length xs - at) (drop at xs) (omega (arith, length-drop at xs))
-
+  -- another rest in the place of a list's
   pub put-rest : (xs : List A) (at : ℕ) (ys : List A) → putMid at (length xs - at) xs ys ≡ take at xs ++ ys
   put-rest xs at ys = rw (drop-of-length-le (drop at xs) {i = length xs - at} (omega (arith, length-drop at xs)), append-nil ys)
 

@@ -1,7 +1,7 @@
 -- The calls' verdicts: what an accepted run or close meets, the stamps one by one, and what an accepted call leaves. Assumes nothing.
 use Prim.Native.Nat.{ℕ, _+_, _-_, _/_, _%_, _≤_, _<_}
 use mathlib.Core.Path.{_≡_, refl, _∙_}
-use mathlib.Core.Bool.{Bool, true, false, cond, _&&_}
+use mathlib.Core.Bool.{true, false, _&&_}
 use mathlib.Core.List.{List, [], _∷_}
 use native.Mathlib.Numerals.{add-one}
 use borrow.Author.Tests.{not-false, eqb-true, ltb-false}
@@ -11,12 +11,12 @@ use lib.Seq.{drop-cons}
 use Rattle.recognisers.specs.Threshold.{Thresholds}
 use Rattle.recognisers.specs.declared.call.Refusal.the-variants.{LateStamp, OutsideHours}
 use Rattle.recognisers.specs.declared.call.Verdict.the-variants.{Accepted, Denied}
-use Rattle.recognisers.specs.Refusal.{Tried, firstTrue}
+use Rattle.recognisers.specs.Refusal.{firstTrue}
 use Rattle.bar_box.specs.Sheet.{rowsOf, overlay}
 use Rattle.bar_box.specs.Box.{kept, takenIn, feedVerdict, fedOf, sheetOf}
 use Rattle.bar_box.specs.History.{pricesOf}
 use Rattle.bar_box.proofs.PriceLaws.{bars-prices}
-use Rattle.bar_box.proofs.FeedSteps.{accepts}
+use Rattle.bar_box.proofs.FeedSteps.{none-true, accepts}
 use Rattle.trading_hours.specs.declared.hours.Hours.{Hours}
 use Rattle.terms.specs.declared.events.LastStamp.{LastStamp}
 use Rattle.terms.specs.declared.events.LastStamp.the-variants.{Never, At}
@@ -52,14 +52,6 @@ unfolding firstTrue stampsTried
 stamps-past h last ss i past = rw (drop-of-length-le ss past)
 
 -- ---- what an accepted call meets
-
-pub none-true : (x : Tried) (xs : List Tried) → firstTrue (x ∷ xs) ≡ Accepted → (x .met ≡ false) × (firstTrue xs ≡ Accepted)
-unfolding firstTrue
-none-true x xs = go (x .met) refl
-  where
-    go : (m : Bool) → x .met ≡ m → cond m (Denied (x .why)) (firstTrue xs) ≡ Accepted → (x .met ≡ false) × (firstTrue xs ≡ Accepted)
-    go true e none = (cc, cc)
-    go false e none = (e, none)
 
 -- the layer's hours, term length and carried bar keep the rules
 pub record LayerMeets (h : Hours) (m : ℕ) (c : Carried) : Type 0 where
@@ -148,10 +140,12 @@ stamps-sound h m c (s ∷ ss) (b ∷ bars) e k =
     let eleven = none-true _ _ (ten .1) in
     stamps-sound h m (stepOf h m c s b .carried) ss bars (rw (stamp-last h m c s b) (eleven .1)) (stamp-sound h m c s b (not-false _ (eleven .0)))
 
+-- with nothing open
+pub sound-closed : (h : Hours) (last : LastStamp) (p : OpenBar) → soundCarried h last p ≡ true → soundCarried h last Nothing ≡ true
+unfolding soundCarried
+sound-closed h Never p k = refl
+sound-closed h (At s) p k = k
+
 pub close-sound : (h : Hours) (m : ℕ) (c : Carried) → soundCarried h (c .last) (c .pending) ≡ true → let d = carriedOf h m c (Close ∷ []) in soundCarried h (d .last) (d .pending) ≡ true
-unfolding carriedOf soundCarried
-close-sound h m c k = go (c .last) (c .pending) k
-  where
-    go : (last : LastStamp) (p : OpenBar) → soundCarried h last p ≡ true → soundCarried h last Nothing ≡ true
-    go Never p k = refl
-    go (At s) p k = k
+unfolding carriedOf
+close-sound h m c k = sound-closed h (c .last) (c .pending) k

@@ -15,8 +15,6 @@ use Rattle.recognisers.specs.Refusal.{firstTrue}
 use Rattle.trading_hours.specs.declared.hours.Hours.{Hours}
 use Rattle.terms.specs.declared.events.LastStamp.{LastStamp}
 use Rattle.terms.specs.declared.events.LastStamp.the-variants.{Never, At}
-use Rattle.terms.specs.declared.events.OpenBar.{OpenBar}
-use Rattle.terms.specs.declared.events.OpenBar.the-variants.{Nothing}
 use Rattle.terms.specs.declared.events.Carried.{Carried}
 use Rattle.trading_hours.specs.Hours.{inHours}
 use Rattle.terms.specs.Events.{goesOn, stepOf, carriedOf, minutesOf}
@@ -24,7 +22,8 @@ use Rattle.terms.specs.Layer.{above, soundCarried, validLayer, stampsTri
 use Rattle.trading_hours.specs.TermRule.{endOf}
 use Rattle.terms.specs.Passing.{endAfter, EndKnown, Ready}
 use Rattle.trading_hours.proofs.EndLaws.{end-rule}
-use Rattle.terms.proofs.CallLaws.{none-true, stamp-sound, stamp-last, layer-meets}
+use Rattle.bar_box.proofs.FeedSteps.{none-true}
+use Rattle.terms.proofs.CallLaws.{stamp-sound, stamp-last, layer-meets, sound-closed}
 use Rattle.trading_hours.proofs.HourLaws.{term-some}
 
 -- ---- a stamp above the last one
@@ -56,11 +55,6 @@ module _ (h : Hours) (m end s : ℕ) where
   end-next last k there = record { some = k .some; valid = k .valid; sound = there; end-is = refl }
 
 -- ---- the stamps of a run
-
-pub sound-closed : (h : Hours) (last : LastStamp) (p : OpenBar) → soundCarried h last p ≡ true → soundCarried h last Nothing ≡ true
-unfolding soundCarried
-sound-closed h Never p k = refl
-sound-closed h (At s) p k = k
 
 pub ready-end : (h : Hours) (m : ℕ) (c : Carried) (ss : List ℕ) → Ready h m c ss → EndKnown h m (c .last) (endAfter h m (c .last))
 ready-end h m c ss r = record { some = r .some; valid = r .valid; sound = sound-closed h (c .last) (c .pending) (r .sound); end-is = refl }

@@ -18,7 +18,7 @@ use Rattle.bar_box.specs.Box.{takenIn, leaves, feedVerdict, madeOf as boxMade}
 use Rattle.bar_box.specs.History.{pricesOf}
 use Rattle.bar_box.proofs.Overlay.{overlay-none}
 use Rattle.bar_box.proofs.BoxLaws.{taken-none}
-use Rattle.bar_box.proofs.FeedSteps.{fits, accepts}
+use Rattle.bar_box.proofs.FeedSteps.{none-true, fits, accepts}
 use Rattle.bar_box.proofs.PartLaws.{rowsFrom, made-valid}
 use Rattle.trading_hours.specs.declared.hours.Hours.{Hours}
 use Rattle.trading_hours.proofs.HourLaws.{term-some}
@@ -29,7 +29,7 @@ use Rattle.terms.specs.Layer.{layerWith, runVerdictOf, endedIn, taken, t
 use Rattle.terms.specs.Passing.{Ready, progressOf}
 use Rattle.terms.proofs.EventLaws.{carried-append, ended-append, ended-few, length-minutes, few-in, ended-one}
 use Rattle.terms.proofs.FeedLaws.{bars-accepted, few-accepted, some-room}
-use Rattle.terms.proofs.CallLaws.{run-meets, taken-is, sheet-is, none-true, close-meets}
+use Rattle.terms.proofs.CallLaws.{run-meets, taken-is, sheet-is, close-meets}
 use Rattle.terms.proofs.PassingLaws.{minutes-drop, ready-after}
 use Rattle.recognisers.specs.Threshold.{Thresholds, standardSet}
 use Rattle.bar_box.proofs.Demand3.{standard-valid}

@@ -21,7 +21,7 @@ use Rattle.bar_box.proofs.BoxLaws.{taken-none}
 use Rattle.bar_box.specs.History.{pricesOf, oneFeed, historyAfter, verdictOn as boxVerdictOn, appended as boxAppended}
 use Rattle.bar_box.proofs.PriceLaws.{length-prices, bars-prices}
 use Rattle.bar_box.proofs.Demand3.{standard-valid, fresh-none, demand-3}
-use Rattle.bar_box.proofs.FeedSteps.{fits}
+use Rattle.bar_box.proofs.FeedSteps.{none-true, fits}
 use Rattle.bar_box.proofs.FeedLists.{Sound, sound-empty, one-accepted, one-box, one-rows}
 use Rattle.trading_hours.specs.declared.hours.Hours.{Hours}
 use Rattle.terms.specs.declared.layers.Layer.{Layer}
@@ -30,7 +30,6 @@ use Rattle.terms.specs.History.{Call, eventsIn, verdictOn, appended, eve
 use Rattle.trading_hours.specs.Hours.{mostWindows, windowsOf, withZeros, validHours, risingFrom, termLength}
 use Rattle.trading_hours.proofs.HourLaws.{zeros-windows}
 use Rattle.terms.specs.Layer.{wholeDay, soundCarried, validLayer, makeVerdict, taken, madeBy, madeOf}
-use Rattle.terms.proofs.CallLaws.{none-true}
 use Rattle.terms.proofs.EventLaws.{carried-last, ended-append}
 use Rattle.terms.proofs.CallSteps.{box-accepts, Kept, kept-none, kept-step, events-feed, layerOf, verdict-step, layer-step, rows-step}
 

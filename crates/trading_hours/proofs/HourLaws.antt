@@ -1,7 +1,7 @@
 -- Hours, window by window: the place of the window that has a minute, and windows that rise. Assumes nothing.
 use Prim.Native.Nat.{ℕ, zero, suc, _+_, _-_, _≤_, _<_}
 use mathlib.Core.Path.{_≡_, refl, ap, sym, _∙_}
-use mathlib.Core.Bool.{Bool, true, false, cond, _&&_, _||_}
+use mathlib.Core.Bool.{Bool, true, false, cond, _||_}
 use mathlib.Core.List.{List, [], _∷_, _++_, append-nil}
 use native.Mathlib.Omega.{arith}
 use native.Mathlib.Decide.{decLe}
@@ -13,12 +13,7 @@ use borrow.Author.Tests.{lt-ltb}
 use Rattle.trading_hours.specs.declared.hours.DayWindow.{DayWindow}
 use Rattle.trading_hours.specs.declared.hours.Hours.{Hours}
 use Rattle.trading_hours.specs.Hours.{has, anyHas, placeOf, noWindow, risingFrom, follows, mostWindows, windowsOf, withZeros, termLength}
-
--- ---- what `&&` tells
-
-pub both : (t u : Bool) → (t && u) ≡ true → (t ≡ true) × (u ≡ true)
-both true u e = (refl, e)
-both false u e = (e, (cc))
+pub use Rattle.rule_types.proofs.ListLaws.{both}
 
 -- ---- the place of the window that has a minute
 

@@ -1,8 +1,10 @@
 -- A close, or a run of the bars that are left; both on the sheet from a byte on. Assumes nothing.
-use Prim.Native.Nat.{_*_}
+use Prim.Native.Nat.{_-_, _*_}
 use mathlib.Core.Path.{_∙_}
-use lib.ListN.{drop}
-use Rattle.term_feeds.proofs.ListLaws.{part-is, rest-is, put-rest}
+use native.Mathlib.Omega.{arith}
+use lib.ListN.{length, drop, length-drop}
+use lib.Seq.{take-all}
+use Rattle.term_feeds.proofs.ListLaws.{part-is, put-rest}
 use Rattle.term_feeds.proofs.CallLaws.{call-close, call-run}
 use borrow.Author.Needs.{needs}
 use Rattle.term_feeds.proofs.make_call.Statement.{statement}
@@ -31,7 +33,7 @@ returns c =
     let sheet = args .sheet .now in
     let call = call-close (args .size) (drop (args .p) (args .prices .now)) (drop (args .s) (args .stamps .now)) (drop (args .at) sheet) (made .before .before .if1 .taken) in
     let out = made .close .ensures in
-    let same = rest-is sheet (args .at) in
+    let same = take-all (length sheet - args .at) (drop (args .at) sheet) (omega (arith, length-drop (args .at) sheet)) in
     rw call (out .0 ∙ rw same, rw (put-rest sheet (args .at)) (rw (out .1, same)))
 
 mul-least : tie.Need-mul-least
@@ -102,7 +104,7 @@ returns-2 c =
     let ss = args .stamps .now in
     let call = call-run (args .size) (drop (args .p) ps) (drop (args .s) ss) (drop (args .at) sheet) (p-end .before .if1 .left) in
     let out = made .run .ensures in
-    let same = rest-is sheet (args .at) in
+    let same = take-all (length sheet - args .at) (drop (args .at) sheet) (omega (arith, length-drop (args .at) sheet)) in
     let prices-are = part-is ps (args .p) (4 * args .size) (pre .0) in
     let stamps-are = part-is ss (args .s) (args .size) (pre .1) in
     let ends = p-end .least .ensures in
