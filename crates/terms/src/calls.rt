@@ -79,7 +79,7 @@ fn take_bars(
 }
 
 // Takes a run of bars in, one stamp a bar, and writes a row for each term bar that ended, or refuses and leaves layer and sheet as they
-// were: a refused run takes no bar. Where no term bar ends the box is copied once.
+// were: a refused run takes no bar. Where no term bar ends nothing is fed.
 pub fn run(l: Layer, prices: &[f64], stamps: &[u32], sheet: &mut [u8]) -> Taken
     ensures { λ r. ⌜ (r ≡ ranOf l (now (prices .entry)) (now (stamps .entry)) (length (now (sheet .entry))))
         × (now (sheet .exit) ≡ ranSheet l (now (prices .entry)) (now (stamps .entry)) (now (sheet .entry))) ⌝ }
