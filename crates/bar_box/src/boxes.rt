@@ -5,6 +5,7 @@ use measures::Bar;
 use recognisers::Thresholds;
 use recognisers::call::Refusal;
 use recognisers::call::Verdict;
+use recognisers::counts::PLACES;
 
 // What a place holds: a bar and its ordinal, from 1 in the order of the history.
 pub struct KeptBar {
@@ -16,7 +17,7 @@ pub struct KeptBar {
 pub struct BarBox {
     pub thresholds: Thresholds,
     pub count: u32,
-    pub bars: [KeptBar; 64],
+    pub bars: [KeptBar; PLACES],
 }
 
 // The box after a call, and whether it is refused. The box stands first: behind the verdict a feed would copy it once more.
@@ -41,7 +42,7 @@ fn fresh(thresholds: Thresholds) -> BarBox
     BarBox {
         thresholds,
         count: 0,
-        bars: [zeros; 64],
+        bars: [zeros; PLACES],
     }
 }
 

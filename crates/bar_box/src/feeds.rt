@@ -5,7 +5,8 @@ ghost use Prim.Native.Nat.{_+_, _*_, _/_, _%_, _≤_};
 ghost use lib.Dec.{eqb};
 ghost use lib.ListN.{length, take};
 ghost use Rattle.measures.specs.Bar.{barsOf};
-ghost use Rattle.bar_box.specs.Sheet.{rowsOf, overlay};
+ghost use Rattle.recognisers.specs.Number.{rowBytes};
+ghost use Rattle.bar_box.specs.Sheet.{rowsOf, before, overlay};
 ghost use Rattle.bar_box.specs.Box.{kept, takenIn, feedVerdict, leaves, fedOf, sheetOf};
 use crate::boxes::BarBox;
 use crate::boxes::Outcome;
@@ -44,7 +45,7 @@ pub fn feed_verdict(t: Thresholds, n: u32, prices: usize, sheet: usize) -> Verdi
 // Writes the rows of the lent bars, which follow count others; the newest of these stand at the front of the run, old of them. Those that a
 // rule's window may begin before are labelled over the run, where they come behind those, the others straight over the lent prices.
 fn label(t: Thresholds, count: u32, run: &mut [f64], old: usize, prices: &[f64], sheet: &mut [u8])
-    requires { ⌜ (168 ≤ length (now run)) × (old ≤ 21) × (count + length (barsOf (now prices)) ≤ 4294967295) × (36 * length (barsOf (now prices)) ≤ length (now sheet)) ⌝ }
+    requires { ⌜ (8 * before ≤ length (now run)) × (old ≤ before) × (count + length (barsOf (now prices)) ≤ 4294967295) × (rowBytes * length (barsOf (now prices)) ≤ length (now sheet)) ⌝ }
     ensures { λ _. ⌜ now (sheet .exit) ≡ overlay (now (sheet .entry)) 0 (rowsOf t count (take old (barsOf (now (run .entry)))) (barsOf (now (prices .entry)))) ⌝ }
 {
     let new = least(measures::count(prices), BEFORE);
@@ -64,7 +65,7 @@ fn by_one(gone: usize, stay: usize) -> usize
 // Writes the rows of the lent bars and takes them in: the newest 64 bars, then what the places past them held. One function goes through
 // the places, since a box that is handed on is copied.
 fn take_in(b: BarBox, prices: &[f64], sheet: &mut [u8]) -> BarBox
-    requires { ⌜ (b .count + length (barsOf (now prices)) ≤ 4294967295) × (36 * length (barsOf (now prices)) ≤ length (now sheet)) ⌝ }
+    requires { ⌜ (b .count + length (barsOf (now prices)) ≤ 4294967295) × (rowBytes * length (barsOf (now prices)) ≤ length (now sheet)) ⌝ }
     ensures { λ r. ⌜ (r ≡ takenIn b (barsOf (now (prices .entry)))) × (now (sheet .exit) ≡ overlay (now (sheet .entry)) 0 (rowsOf (b .thresholds) (b .count) (kept b) (barsOf (now (prices .entry))))) ⌝ }
 {
     let t = b.thresholds;

@@ -21,7 +21,7 @@ use recognisers::table;
 fn look_verdict(k: u32, di: u32, t: Thresholds, n: u32) -> Verdict
     ensures { λ r. ⌜ r ≡ lookVerdict k di t n ⌝ }
 {
-    if counts::RECOGNISERS <= k {
+    if counts::RECOGNISERS <= k as usize {
         return Verdict::Denied(Refusal::UnknownRecogniser);
     }
     if di == 0 {
@@ -41,11 +41,11 @@ fn look_verdict(k: u32, di: u32, t: Thresholds, n: u32) -> Verdict
 }
 
 // The pair of a recogniser at an offset of the kept bars, with the box's count for len.
-fn pair_back(t: Thresholds, count: u32, bars: [KeptBar; 64], k: u32, di: u32) -> Pair
+fn pair_back(t: Thresholds, count: u32, bars: [KeptBar; counts::PLACES], k: u32, di: u32) -> Pair
     ensures { λ r. ⌜ r ≡ pairAt k t count (barsIn (take count bars)) di ⌝ }
 {
     let kept = least(count as usize, counts::PLACES);
-    let mut run = [0.0; 256];
+    let mut run = [0.0; 4 * counts::PLACES];
     let mut i = 0usize;
     while i < kept {
         let place = bars[i];

@@ -84,7 +84,7 @@ pub fn refusal_number(r: Refusal) -> u8
 pub fn plain_verdict(k: u32, di: u32, t: Thresholds, whole: bool, count: usize) -> Verdict
     ensures { λ r. ⌜ r ≡ plainVerdict k di t whole count ⌝ }
 {
-    if counts::RECOGNISERS <= k {
+    if counts::RECOGNISERS <= k as usize {
         return Verdict::Denied(Refusal::UnknownRecogniser);
     }
     if di == 0 {

@@ -14,16 +14,17 @@ use quarter_rules::quarter_of;
 use rule_types::counts::GATE_END;
 use rule_types::counts::QUARTER_BARS;
 use rule_types::counts::REACH_BARS;
+use rule_types::counts::RECOGNISERS;
 use rule_types::label::Pair;
 use rule_types::label::pair_a;
 use rule_types::label::pair_b;
 use rule_types::label::pick_pair;
 
 // The p from which each rule holds, in the order of the numbers.
-const FROM: [usize; 18] = [1, 2, 12, 16, 5, 6, 3, 2, 1, 2, 2, 3, 3, 11, 8, 21, 7, 5];
+const FROM: [usize; RECOGNISERS] = [1, 2, 12, 16, 5, 6, 3, 2, 1, 2, 2, 3, 3, 11, 8, 21, 7, 5];
 
 // Whether the short pair of each is B.
-const SHORT_IS_B: [bool; 18] = [
+const SHORT_IS_B: [bool; RECOGNISERS] = [
     false,
     false,
     true,
@@ -90,7 +91,11 @@ pub fn judge(k: u32, t: Thresholds, len: usize, p: usize, w: &[f64], gate: &[f64
 {
     let full = rule(k, t, len, p >= REACH_BARS, w, gate);
     let i = k as usize;
-    if i < 18 { row(i, p, full) } else { full }
+    if i < RECOGNISERS {
+        row(i, p, full)
+    } else {
+        full
+    }
 }
 
 // The pair of recogniser k at an offset of the lent bars, which are the newest of a history of len bars.
@@ -105,7 +110,7 @@ pub fn pair_at(k: u32, t: Thresholds, len: usize, prices: &[f64], di: usize) -> 
 
 // Every rule over the same windows. What several rules need is made once: the newest bars, the extremes of the quarter, and the search of
 // 4 and 17.
-fn rules(t: Thresholds, len: usize, deep: bool, w: &[f64], gate: &[f64]) -> [Pair; 18]
+fn rules(t: Thresholds, len: usize, deep: bool, w: &[f64], gate: &[f64]) -> [Pair; RECOGNISERS]
     ensures { λ r. ⌜ r ≡ rulesOf t len deep (barsOf (now (w .entry))) (barsOf (now (gate .entry))) ⌝ }
 {
     let b1 = back(w, 1);
@@ -145,17 +150,17 @@ fn rules(t: Thresholds, len: usize, deep: bool, w: &[f64], gate: &[f64]) -> [Pai
 fn first_short(p: usize) -> usize
     ensures { λ r. ⌜ r ≡ cond (leb reachBars p) recognisers 0 ⌝ }
 {
-    if REACH_BARS <= p { 18 } else { 0 }
+    if REACH_BARS <= p { RECOGNISERS } else { 0 }
 }
 
 // Every recogniser over the same windows.
-fn pairs(t: Thresholds, len: usize, p: usize, w: &[f64], gate: &[f64]) -> [Pair; 18]
+fn pairs(t: Thresholds, len: usize, p: usize, w: &[f64], gate: &[f64]) -> [Pair; RECOGNISERS]
     ensures { λ r. ⌜ r ≡ pairsOf t len p (barsOf (now (w .entry))) (barsOf (now (gate .entry))) ⌝ }
 {
     let full = rules(t, len, p >= REACH_BARS, w, gate);
     let mut pairs = full;
     let mut k = first_short(p);
-    while k < 18 {
+    while k < RECOGNISERS {
         pairs[k] = row(k, p, full[k]);
         k += 1;
     }
@@ -163,7 +168,7 @@ fn pairs(t: Thresholds, len: usize, p: usize, w: &[f64], gate: &[f64]) -> [Pair;
 }
 
 // The pairs of every recogniser at the newest of the lent bars, which are the newest of a history of len bars.
-pub fn newest_pairs(t: Thresholds, len: usize, prices: &[f64]) -> [Pair; 18]
+pub fn newest_pairs(t: Thresholds, len: usize, prices: &[f64]) -> [Pair; RECOGNISERS]
     ensures { λ r. ⌜ r ≡ pairsAt t len (barsOf (now (prices .entry))) 1 ⌝ }
 {
     let p = measures::up_to(len, 1);

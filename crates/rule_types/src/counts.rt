@@ -1,7 +1,10 @@
 // The counts of the rules, as specs/Number.antt names them.
 
 // The recognisers, numbered from 0.
-pub const RECOGNISERS: u32 = 18;
+pub const RECOGNISERS: usize = 18;
+
+// The labels, with codes from 0.
+pub const LABELS: usize = 38;
 
 // The recogniser whose gate reads len.
 pub const GATED: u32 = 12;
@@ -25,7 +28,7 @@ pub const MOST_WHOLE: u32 = 1000000;
 pub const MOST_TENTHS: u32 = 10000000;
 
 // A sheet's row: two codes for each recogniser.
-pub const ROW_BYTES: usize = 36;
+pub const ROW_BYTES: usize = 2 * RECOGNISERS;
 
 // The places of a box, and the farthest offset of a look.
 pub const PLACES: usize = 64;

@@ -12,7 +12,7 @@ use lib.ListN.{length, getD, set, length-append, replicate, length-set, length-r
 use lib.Seq.{getD-set-same, getD-set-other, getD-append-add}
 use Rattle.recognisers.specs.Number.{recognisers, labels, rowBytes}
 use Rattle.tallies.specs.Tally.{totalOf, countBelow, v1In, firstWith, rowsWith, gainRow}
-use Rattle.tallies.specs.Count.{Counted}
+use Rattle.tallies.specs.Count.{cells, Counted}
 use Rattle.tallies.proofs.PlaceLaws.{length-places}
 use Rattle.tallies.proofs.TallyLaws.{gain-gain, gain-none, total-one}
 
@@ -71,14 +71,14 @@ with-append xs ys m size k c known =
 -- ---- counting row by row, in one run of numbers
 
 -- before the first row all are zeros
-pub none-counted : (rows : List ℕ) → Counted rows 0 (replicate {A = ℕ} 684 0)
+pub none-counted : (rows : List ℕ) → Counted rows 0 (replicate {A = ℕ} cells 0)
 unfolding countBelow
-none-counted rows = (length-replicate {A = ℕ} 684 0, λ k c known label. getD-replicate {A = ℕ} 684 (38 * k + c) 0 0 (omega arith))
+none-counted rows = (length-replicate {A = ℕ} cells 0, λ k c known label. getD-replicate {A = ℕ} cells (labels * k + c) 0 0 (omega arith))
 
 -- the numbers count the first i rows, and of the recognisers below k one row more
 abbrev pub Passed : List ℕ → ℕ → ℕ → List ℕ → Type 0
 Passed rows i k numbers =
-    (length numbers ≡ 684) × ((j c : ℕ) → j < recognisers → c < labels → getD numbers (38 * j + c) 0 ≡ firstWith rows (cond (ltb j k) (i + 1) i) j c)
+    (length numbers ≡ cells) × ((j c : ℕ) → j < recognisers → c < labels → getD numbers (labels * j + c) 0 ≡ firstWith rows (cond (ltb j k) (i + 1) i) j c)
 
 pub none-passed : (rows : List ℕ) (i : ℕ) (numbers : List ℕ) → Counted rows i numbers → Passed rows i 0 numbers
 none-passed rows i numbers h = (h .0, λ j c known label. rw (le-ltb j 0 (omega arith)) (h .1 j c known label))
@@ -94,7 +94,7 @@ beside j k false e differ = rw (e, le-ltb j (k + 1) (omega (arith, ltb-false j k
 module _ (rows : List ℕ) (i k : ℕ) (numbers : List ℕ) (h : Passed rows i k numbers) (known : k < recognisers) (label : v1In rows i k < labels) where
   -- where the next row is counted
   abbrev place : ℕ
-  place = 38 * k + v1In rows i k
+  place = labels * k + v1In rows i k
 
   -- its number is not more than the rows before
   pub number-most : getD numbers place 0 ≤ i
@@ -108,18 +108,18 @@ module _ (rows : List ℕ) (i k : ℕ) (numbers : List ℕ) (h : Passed rows i k
   next-passed = (rw length-set (h .0), λ j c one two. go j c one two (eqb j k) refl (eqb (v1In rows i k) c) refl)
     where
       go : (j c : ℕ) → j < recognisers → c < labels → (t : Bool) → eqb j k ≡ t → (u : Bool) → eqb (v1In rows i k) c ≡ u
-          → getD (set numbers place (getD numbers place 0 + 1)) (38 * j + c) 0 ≡ firstWith rows (cond (ltb j (k + 1)) (i + 1) i) j c
+          → getD (set numbers place (getD numbers place 0 + 1)) (labels * j + c) 0 ≡ firstWith rows (cond (ltb j (k + 1)) (i + 1) i) j c
       go j c one two true e true f =
           let same : j ≡ k = eqb-true j k e in
           let is : v1In rows i k ≡ c = eqb-true (v1In rows i k) c f in
-          let here : 38 * j + c ≡ place = omega arith in
+          let here : labels * j + c ≡ place = omega arith in
           let had : getD numbers place 0 ≡ firstWith rows i k c = rw (← is) (rw (le-ltb k k (omega arith)) at (h .1 k (v1In rows i k) known label)) in
           rw (here, getD-set-same numbers place (getD numbers place 0 + 1) 0 (omega (arith, h .0)), same, lt-ltb k (k + 1) (omega arith), one-row c, f, had)
       go j c one two true e false f =
           let same : j ≡ k = eqb-true j k e in
-          let other : 38 * j + c ≡ place → ⊥ = λ q. eqb-false (v1In rows i k) c f (omega arith) in
-          rw (getD-set-other numbers place (38 * j + c) (getD numbers place 0 + 1) 0 other, h .1 j c one two, same, lt-ltb k (k + 1) (omega arith), le-ltb k k (omega arith), one-row c, f) (sym (add-zero (firstWith rows i k c)))
+          let other : labels * j + c ≡ place → ⊥ = λ q. eqb-false (v1In rows i k) c f (omega arith) in
+          rw (getD-set-other numbers place (labels * j + c) (getD numbers place 0 + 1) 0 other, h .1 j c one two, same, lt-ltb k (k + 1) (omega arith), le-ltb k k (omega arith), one-row c, f) (sym (add-zero (firstWith rows i k c)))
       go j c one two false e u f =
           let differ = eqb-false j k e in
-          let other : 38 * j + c ≡ place → ⊥ = λ q. differ (omega arith) in
-          rw (getD-set-other numbers place (38 * j + c) (getD numbers place 0 + 1) 0 other, h .1 j c one two, beside j k (ltb j k) refl differ)
+          let other : labels * j + c ≡ place → ⊥ = λ q. differ (omega arith) in
+          rw (getD-set-other numbers place (labels * j + c) (getD numbers place 0 + 1) 0 other, h .1 j c one two, beside j k (ltb j k) refl differ)

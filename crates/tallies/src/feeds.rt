@@ -10,13 +10,14 @@ use bar_box::feeds::feed_verdict;
 use recognisers::Thresholds;
 use recognisers::call::Refusal;
 use recognisers::call::Verdict;
+use recognisers::counts::RECOGNISERS;
 use recognisers::counts::ROW_BYTES;
 
 // Whether a feed is refused, and the box and the tally after it.
 pub struct Tallied {
     pub verdict: Verdict,
     pub after: BarBox,
-    pub tally: [TallyRow; 18],
+    pub tally: [TallyRow; RECOGNISERS],
 }
 
 // The first of the refusals 3 to 6 that is true of a feed with a tally to a box that counts n bars; 5 also covers a tally with a row that
@@ -24,7 +25,7 @@ pub struct Tallied {
 pub fn tally_verdict(
     t: Thresholds,
     n: u32,
-    tally: [TallyRow; 18],
+    tally: [TallyRow; RECOGNISERS],
     prices: usize,
     sheet: usize,
 ) -> Verdict
@@ -47,7 +48,7 @@ pub fn tally_verdict(
 }
 
 // Takes the lent bars in, writes a row for each and counts it, or refuses and leaves box, tally and sheet as they were.
-pub fn feed(b: BarBox, tally: [TallyRow; 18], prices: &[f64], sheet: &mut [u8]) -> Tallied
+pub fn feed(b: BarBox, tally: [TallyRow; RECOGNISERS], prices: &[f64], sheet: &mut [u8]) -> Tallied
     ensures { λ r. ⌜ (r ≡ talliedOf b tally (lent (now (prices .entry)) (now (sheet .entry)))) × (now (sheet .exit) ≡ talliedSheet b tally (lent (now (prices .entry)) (now (sheet .entry)))) × (Shaped tally) ⌝ }
 {
     let t = b.thresholds;

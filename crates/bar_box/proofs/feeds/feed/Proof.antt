@@ -4,6 +4,7 @@ use mathlib.Core.Path.{_≡_, _∙_, sym}
 use native.Mathlib.Omega.{arith}
 use borrow.Author.Needs.{needs}
 use lib.ListN.{length, length-take, length-map}
+use Rattle.recognisers.specs.Number.{places}
 use Rattle.measures.specs.Bar.{barsOf}
 use Rattle.bar_box.specs.Sheet.{rowsOf, overlay}
 use Rattle.bar_box.specs.Box.{kept, takenIn, leaves, fedOf, sheetOf}
@@ -38,7 +39,7 @@ returns c =
     let ps = start .args .prices .now in
     let sheet = start .args .sheet .now in
     let v = told .feed-verdict .result in
-    let full : length (b .bars) ≡ 64 = simp length-map at (start .good .0 .1 .1 .1 .1 .0 .1 .0 .1) in
+    let full : length (b .bars) ≡ places = simp length-map at (start .good .0 .1 .1 .1 .1 .0 .1 .0 .1) in
     let box : took .take-in .result ≡ leaves v b (takenIn b (barsOf ps)) = took .take-in .ensures .0 ∙ rw (end .taken .ensures) (lent-box v b full ps) in
     let rows : took .take-in .last .1 .1 .0 ≡ leaves v sheet (overlay sheet 0 (rowsOf (b .thresholds) (b .count) (kept b) (barsOf ps))) =
     took .take-in .ensures .1 ∙ rw (end .taken .ensures) (lent-sheet v (b .thresholds) (b .count) (kept b) ps sheet) in

@@ -5,6 +5,7 @@ use mathlib.Core.Path.{_≡_, refl, sym, ap, _∙_}
 use native.Mathlib.Omega.{arith}
 use borrow.Author.Needs.{needs}
 use lib.ListN.{length, getD, take, drop, set, length-set, length-drop, length-map}
+use Rattle.recognisers.specs.Number.{places}
 use Rattle.measures.specs.Bar.{barsOf}
 use Rattle.bar_box.specs.Sheet.{overlay}
 use Rattle.bar_box.specs.Box.{numbered, barsIn}
@@ -25,19 +26,19 @@ abbrev μ-loop : tie.MeasureT-loop
 μ-loop prices sheet t count after kept old from run₀ i₀ run i = old - i
 
 abbrev Inv-loop2 : tie.InvT-loop2
-Inv-loop2 prices sheet count after₀ kept old from i n new stay gone near j₀ after j = (j ≤ near) × (near ≤ 63) × (length (after .bars) ≡ 64) × (after ≡ withBars after₀ (shifted (after₀ .bars) j₀ gone j))
+Inv-loop2 prices sheet count after₀ kept old from i n new stay gone near j₀ after j = (j ≤ near) × (near < places) × (length (after .bars) ≡ places) × (after ≡ withBars after₀ (shifted (after₀ .bars) j₀ gone j))
 
 abbrev μ-loop2 : tie.MeasureT-loop2
 μ-loop2 prices sheet count after₀ kept old from i n new stay gone near j₀ after j = near - j
 
 abbrev Inv-loop3 : tie.InvT-loop3
-Inv-loop3 prices sheet count after₀ kept old from i n new stay gone near j₀ after j = (j ≤ stay) × (j₀ ≤ j) × (length (after .bars) ≡ 64) × (after ≡ withBars after₀ (shifted (after₀ .bars) j₀ gone j))
+Inv-loop3 prices sheet count after₀ kept old from i n new stay gone near j₀ after j = (j ≤ stay) × (j₀ ≤ j) × (length (after .bars) ≡ places) × (after ≡ withBars after₀ (shifted (after₀ .bars) j₀ gone j))
 
 abbrev μ-loop3 : tie.MeasureT-loop3
 μ-loop3 prices sheet count after₀ kept old from i n new stay gone near j₀ after j = stay - j
 
 abbrev Inv-loop4 : tie.InvT-loop4
-Inv-loop4 prices sheet count after₀ kept old from i n new stay gone near j first k₀ after k = (k ≤ new) × (length (after .bars) ≡ 64) × (after ≡ withBars after₀ (overlay (after₀ .bars) stay (take k (drop first (numbered count (barsOf prices))))))
+Inv-loop4 prices sheet count after₀ kept old from i n new stay gone near j first k₀ after k = (k ≤ new) × (length (after .bars) ≡ places) × (after ≡ withBars after₀ (overlay (after₀ .bars) stay (take k (drop first (numbered count (barsOf prices))))))
 
 abbrev μ-loop4 : tie.MeasureT-loop4
 μ-loop4 prices sheet count after₀ kept old from i n new stay gone near j first k₀ after k = new - k
@@ -117,7 +118,7 @@ loop-again c =
     let from = one .least .result - two .least2 .result in
     let i = at-loop .loop .i in
     let inv = at-loop .loop .inv in
-    let full : length bars ≡ 64 = simp length-map at (start .good .0 .1 .1 .1 .1 .0 .1 .0 .1) in
+    let full : length bars ≡ places = simp length-map at (start .good .0 .1 .1 .1 .1 .0 .1 .0 .1) in
     let held = one .least .ensures in
     let old = two .least2 .ensures in (
       search needs,
@@ -171,7 +172,7 @@ loop2-holds c =
     let two = four .before .before .before .before .before .before .before .before .before .before .before in
     let first = two .before in
     let start = first .before .before .before .before in
-    let full : length (start .args .b .bars) ≡ 64 = simp length-map at (start .good .0 .1 .1 .1 .1 .0 .1 .0 .1) in
+    let full : length (start .args .b .bars) ≡ places = simp length-map at (start .good .0 .1 .1 .1 .1 .0 .1 .0 .1) in
     let stay = four .least4 .result in
     let moved = by-one (first .least .result - stay) stay (c .by-one .result) (c .by-one .ensures) in
     (search needs, omega (arith, moved .1, first .least .ensures, four .least4 .ensures), full, refl)
@@ -234,7 +235,7 @@ loop2-again c =
     let gone = first .least .result - four .least4 .result in
     let j = lp .loop2 .j in
     let inv = lp .loop2 .inv in
-    let full : length (b .bars) ≡ 64 = simp length-map at (start .good .0 .1 .1 .1 .1 .0 .1 .0 .1) in
+    let full : length (b .bars) ≡ places = simp length-map at (start .good .0 .1 .1 .1 .1 .0 .1 .0 .1) in
     let moved = by-one gone (four .least4 .result) (one .by-one .result) (one .by-one .ensures) in
     let by = moved .2 j (c .before .loop2-test .taken) in
     let there : j + gone < length (b .bars) = omega (arith, by, moved .0, c .before .loop2-test .taken, four .least4 .ensures, three .least3 .ensures, first .least .ensures, full) in
@@ -433,7 +434,7 @@ returns c =
     let first = two .before in
     let start = first .before .before .before .before in
     let b = start .args .b in
-    let full : length (b .bars) ≡ 64 = simp length-map at (start .good .0 .1 .1 .1 .1 .0 .1 .0 .1) in
+    let full : length (b .bars) ≡ places = simp length-map at (start .good .0 .1 .1 .1 .1 .0 .1 .0 .1) in
     let stay = four .least4 .result in
     let new = three .least3 .result in
     let last : lp3 .loop3 .j ≡ stay = omega (arith, c .before .before .loop3-test .left, lp3 .loop3 .inv .0) in

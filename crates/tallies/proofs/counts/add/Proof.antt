@@ -6,6 +6,7 @@ use native.Mathlib.Omega.{arith}
 use borrow.Author.Needs.{needs}
 use lib.ListN.{length, getD, drop-of-length-le}
 use lib.Seq.{take-all}
+use Rattle.recognisers.specs.Number.{recognisers, labels}
 use Rattle.tallies.specs.declared.table.TallyRow.{TallyRow}
 use Rattle.tallies.specs.Tally.{rowOfCounts, byPlace, gainRow}
 use Rattle.tallies.proofs.PlaceLaws.{changed, changed-next}
@@ -13,10 +14,10 @@ use Rattle.tallies.proofs.counts.add.Statement.{statement}
 use Rattle.tallies.proofs.counts.add.Tie as tie
 
 abbrev Inv-loop : tie.InvT-loop
-Inv-loop numbers tally next₀ k₀ next k = (k ≤ 18) × (length tally ≡ 18) × (next ≡ changed (λ i row. rowOfCounts (gainRow (λ c. getD numbers (38 * i + c) 0) (row .counts))) k tally)
+Inv-loop numbers tally next₀ k₀ next k = (k ≤ recognisers) × (length tally ≡ recognisers) × (next ≡ changed (λ i row. rowOfCounts (gainRow (λ c. getD numbers (labels * i + c) 0) (row .counts))) k tally)
 
 abbrev μ-loop : tie.MeasureT-loop
-μ-loop numbers tally next₀ k₀ next k = 18 - k
+μ-loop numbers tally next₀ k₀ next k = recognisers - k
 
 loop-holds : tie.Need-loop-holds Inv-loop μ-loop
 unfolding byPlace
@@ -53,7 +54,7 @@ loop-again c =
     let tally = start .args .t1 in
     let k = at-loop .loop .k in
     let inside : k < length tally = omega (arith, at-loop .loop .inv .1) in
-    let change : ℕ → TallyRow → TallyRow = λ i row. rowOfCounts (gainRow (λ c. getD (start .args .numbers .now) (38 * i + c) 0) (row .counts)) in
+    let change : ℕ → TallyRow → TallyRow = λ i row. rowOfCounts (gainRow (λ c. getD (start .args .numbers .now) (labels * i + c) 0) (row .counts)) in
     let row : c .add-row .result ≡ change k (getD tally k (rowOfCounts [])) = ap rowOfCounts (c .add-row .ensures) in
     (omega arith, at-loop .loop .inv .1, rw (at-loop .loop .inv .2, row) (changed-next change tally k (rowOfCounts []) inside))
 
@@ -61,8 +62,8 @@ returns : tie.Need-returns Inv-loop μ-loop
 returns c =
     let inv = c .before .loop .inv in
     let tally = c .before .before .before .args .t1 in
-    let all : c .before .loop .k ≡ 18 = omega arith in
-    rw (all, take-all 18 tally (omega (arith, inv .1)), drop-of-length-le tally {i = 18} (omega (arith, inv .1)), append-nil) at (inv .2)
+    let all : c .before .loop .k ≡ recognisers = omega arith in
+    rw (all, take-all recognisers tally (omega (arith, inv .1)), drop-of-length-le tally {i = recognisers} (omega (arith, inv .1)), append-nil) at (inv .2)
 
 pub add-spec : {M : Type 1} → statement M
 add-spec =

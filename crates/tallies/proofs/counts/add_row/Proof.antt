@@ -6,16 +6,17 @@ use native.Mathlib.Omega.{arith}
 use borrow.Author.Needs.{needs}
 use lib.ListN.{length, getD, length-map, drop-of-length-le}
 use lib.Seq.{take-all}
+use Rattle.recognisers.specs.Number.{labels}
 use Rattle.tallies.specs.Tally.{byPlace}
 use Rattle.tallies.proofs.PlaceLaws.{changed, changed-at, changed-next}
 use Rattle.tallies.proofs.counts.add_row.Statement.{statement}
 use Rattle.tallies.proofs.counts.add_row.Tie as tie
 
 abbrev Inv-loop : tie.InvT-loop
-Inv-loop k numbers counts₀ c₀ counts c = (c ≤ 38) × (length counts₀ ≡ 38) × (counts ≡ changed (λ i count. count + getD numbers (38 * k + i) 0) c counts₀)
+Inv-loop k numbers counts₀ c₀ counts c = (c ≤ labels) × (length counts₀ ≡ labels) × (counts ≡ changed (λ i count. count + getD numbers (labels * k + i) 0) c counts₀)
 
 abbrev μ-loop : tie.MeasureT-loop
-μ-loop k numbers counts₀ c₀ counts c = 38 - c
+μ-loop k numbers counts₀ c₀ counts c = labels - c
 
 loop-holds : tie.Need-loop-holds Inv-loop μ-loop
 unfolding byPlace
@@ -45,7 +46,7 @@ add-counts-2 c =
     let start = at-loop .before .before in
     let numbers = start .args .numbers .now in
     let k = start .args .k in
-    let had = changed-at (λ i count. count + getD numbers (38 * k + i) 0) (start .args .row .counts) (at-loop .loop .c) 0 (omega (arith, at-loop .loop .inv .1)) in
+    let had = changed-at (λ i count. count + getD numbers (labels * k + i) 0) (start .args .row .counts) (at-loop .loop .c) 0 (omega (arith, at-loop .loop .inv .1)) in
     let fits = start .pre .2 (at-loop .loop .c) (omega arith) in
     rw (at-loop .loop .inv .2, had) (record { fits = fits })
 
@@ -66,15 +67,15 @@ loop-again c =
     let k = start .args .k in
     let counts = start .args .row .counts in
     let inside : at-loop .loop .c < length counts = omega (arith, at-loop .loop .inv .1) in
-    let change : ℕ → ℕ → ℕ = λ i count. count + getD numbers (38 * k + i) 0 in
+    let change : ℕ → ℕ → ℕ = λ i count. count + getD numbers (labels * k + i) 0 in
     (omega arith, at-loop .loop .inv .1, rw (at-loop .loop .inv .2, changed-at change counts (at-loop .loop .c) 0 inside) (changed-next change counts (at-loop .loop .c) 0 inside))
 
 returns : tie.Need-returns Inv-loop μ-loop
 returns c =
     let inv = c .before .loop .inv in
     let start = c .before .before .before in
-    let all : c .before .loop .c ≡ 38 = omega arith in
-    rw (all, take-all 38 (start .args .row .counts) (omega (arith, inv .1)), drop-of-length-le (start .args .row .counts) {i = 38} (omega (arith, inv .1)), append-nil) at (inv .2)
+    let all : c .before .loop .c ≡ labels = omega arith in
+    rw (all, take-all labels (start .args .row .counts) (omega (arith, inv .1)), drop-of-length-le (start .args .row .counts) {i = labels} (omega (arith, inv .1)), append-nil) at (inv .2)
 
 pub add-row-spec : {M : Type 1} → statement M
 add-row-spec =

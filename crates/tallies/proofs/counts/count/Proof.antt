@@ -4,6 +4,7 @@ use mathlib.Core.Path.{_∙_}
 use native.Mathlib.Omega.{arith}
 use lib.Dec.{eqb}
 use lib.ListN.{length, getD}
+use Rattle.recognisers.specs.Number.{recognisers, labels, rowBytes}
 use Rattle.tallies.specs.Tally.{countsOf, v1In, rowsWith, counted}
 use Rattle.tallies.proofs.TallyLaws.{cell-total, row-adds, gained-same}
 use Rattle.tallies.proofs.CountLaws.{count-most}
@@ -28,7 +29,7 @@ add-requires c κs =
       λ k known code label.
           let cell = cell-total (countsOf tally k) code in
           let sum = row-adds (start .args .n) tally (pre .2) k (omega (arith, pre .1 .0)) in
-          let most = count-most (λ i. eqb (v1In sheet i k) code) (length sheet / 36) in
+          let most = count-most (λ i. eqb (v1In sheet i k) code) (length sheet / rowBytes) in
           rw (numbers .1 k code known label) (omega (arith, cell, sum, most, pre .3)),
     )
 
@@ -41,8 +42,8 @@ returns c =
     let shaped = start .pre .1 in
     let numbers = c .before .before .count-rows .ensures in
     c .add .ensures
-    ∙ gained-same (λ k code. getD (c .before .before .count-rows .result) (38 * k + code) 0) (rowsWith sheet) tally (λ k code h w.
-    let known : k < 18 = omega (arith, shaped .0) in
+    ∙ gained-same (λ k code. getD (c .before .before .count-rows .result) (labels * k + code) 0) (rowsWith sheet) tally (λ k code h w.
+    let known : k < recognisers = omega (arith, shaped .0) in
     numbers .1 k code known (omega (arith, shaped .1 k known)))
 
 pub count-spec : {M : Type 1} → statement M

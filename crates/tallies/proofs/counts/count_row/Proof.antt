@@ -4,15 +4,17 @@ use mathlib.Core.Path.{_≡_}
 use native.Mathlib.Omega.{arith}
 use borrow.Author.Needs.{needs}
 use lib.ListN.{length}
+use Rattle.recognisers.specs.Number.{recognisers}
+use Rattle.tallies.specs.Count.{cells}
 use Rattle.tallies.proofs.CountLaws.{Passed, none-passed, all-passed, number-most, next-passed}
 use Rattle.tallies.proofs.counts.count_row.Statement.{statement}
 use Rattle.tallies.proofs.counts.count_row.Tie as tie
 
 abbrev Inv-loop : tie.InvT-loop
-Inv-loop sheet i numbers₀ k₀ numbers k = (k ≤ 18) × (length numbers₀ ≡ 684) × (Passed sheet i k numbers)
+Inv-loop sheet i numbers₀ k₀ numbers k = (k ≤ recognisers) × (length numbers₀ ≡ cells) × (Passed sheet i k numbers)
 
 abbrev μ-loop : tie.MeasureT-loop
-μ-loop sheet i numbers₀ k₀ numbers k = 18 - k
+μ-loop sheet i numbers₀ k₀ numbers k = recognisers - k
 
 loop-holds : tie.Need-loop-holds Inv-loop μ-loop
 loop-holds c = (omega arith, c .pre .3 .0, none-passed (c .args .sheet .now) (c .args .i) (c .args .numbers .now) (c .pre .3))
@@ -95,7 +97,7 @@ returns : tie.Need-returns Inv-loop μ-loop
 returns c =
     let at-loop = c .before in
     let start = at-loop .before in
-    let all : at-loop .loop .k ≡ 18 = omega arith in
+    let all : at-loop .loop .k ≡ recognisers = omega arith in
     all-passed (start .args .sheet .now) (start .args .i) (at-loop .loop .numbers) (rw all at (at-loop .loop .inv .2))
 
 pub count-row-spec : {M : Type 1} → statement M

@@ -4,6 +4,7 @@ use mathlib.Core.Path.{_≡_}
 use native.Mathlib.Omega.{arith}
 use borrow.Author.Needs.{needs}
 use lib.ListN.{length}
+use Rattle.recognisers.specs.Number.{rowBytes}
 use Rattle.tallies.specs.Count.{Counted}
 use Rattle.tallies.proofs.CountLaws.{none-counted}
 use Rattle.tallies.proofs.counts.count_rows.Statement.{statement}
@@ -39,7 +40,7 @@ loop-again c = (omega arith, c .before .count-row .ensures)
 returns : tie.Need-returns Inv-loop μ-loop
 returns c =
     let inv = c .before .loop .inv in
-    let all : c .before .loop .i ≡ length (c .before .before .before .args .sheet .now) / 36 = omega arith in
+    let all : c .before .loop .i ≡ length (c .before .before .before .args .sheet .now) / rowBytes = omega arith in
     rw all at (inv .1)
 
 pub count-rows-spec : {M : Type 1} → statement M

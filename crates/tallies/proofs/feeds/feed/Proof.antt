@@ -4,6 +4,7 @@ use mathlib.Core.Path.{_≡_, ap, sym, _∙_}
 use native.Mathlib.Omega.{arith}
 use lib.ListN.{length, take}
 use lib.Seq.{length-take-le}
+use Rattle.recognisers.specs.Number.{rowBytes}
 use Rattle.measures.specs.Bar.{barsOf}
 use Rattle.measures.proofs.RunLaws.{length-bars}
 use Rattle.bar_box.specs.declared.boxes.Outcome.{Outcome}
@@ -66,8 +67,8 @@ slice-aggregate-count c =
     let plain = accepted-plain (args .b) (args .tally) f accepted in
     let met = fits _ _ _ _ plain in
     let fed = c .before .before .before .before .before .feed in
-    let within : 36 * c .before .count .result ≤ length (fed .last .1 .1 .0) = omega (arith, c .before .count .ensures, length-bars (args .prices .now), met .room, fed .kept .1 .1 .0) in
-    sym (length-take-le (36 * c .before .count .result) (fed .last .1 .1 .0) within)
+    let within : rowBytes * c .before .count .result ≤ length (fed .last .1 .1 .0) = omega (arith, c .before .count .ensures, length-bars (args .prices .now), met .room, fed .kept .1 .1 .0) in
+    sym (length-take-le (rowBytes * c .before .count .result) (fed .last .1 .1 .0) within)
 
 count-requires-2 : tie.Need-count-requires-2
 count-requires-2 c κs =
@@ -81,7 +82,7 @@ count-requires-2 c κs =
     let fed = c .before .before .before .before .before .feed in
     let bars = barsOf (args .prices .now) in
     let rows = rowsOf (args .b .thresholds) (args .b .count) (kept (args .b)) bars in
-    let written : take (36 * c .before .count .result) (fed .last .1 .1 .0) ≡ rows = rw (c .before .count .ensures, fed .ensures .1) (rows-written (args .b) (args .tally) f accepted) in
+    let written : take (rowBytes * c .before .count .result) (fed .last .1 .1 .0) ≡ rows = rw (c .before .count .ensures, fed .ensures .1) (rows-written (args .b) (args .tally) f accepted) in
     let size = length-rows (args .b .thresholds) (args .b .count) (kept (args .b)) bars in (
       rw written (rows-known (args .b .thresholds) (args .b .count) (kept (args .b)) bars),
       call .tally-verdict .ensures .1,
@@ -112,7 +113,7 @@ returns-2 c =
     let fed = c .before .before .before .before .before .before .feed in
     let bars = barsOf (args .prices .now) in
     let rows = rowsOf (args .b .thresholds) (args .b .count) (kept (args .b)) bars in
-    let written : take (36 * c .before .before .count .result) (fed .last .1 .1 .0) ≡ rows = rw (c .before .before .count .ensures, fed .ensures .1) (rows-written (args .b) (args .tally) f accepted) in
+    let written : take (rowBytes * c .before .before .count .result) (fed .last .1 .1 .0) ≡ rows = rw (c .before .before .count .ensures, fed .ensures .1) (rows-written (args .b) (args .tally) f accepted) in
     let after = ap (λ (o : Outcome). o .after) (fed .ensures .0) ∙ fed-after (args .b) (args .tally) f accepted in
     let tally : c .count2 .result ≡ counted rows (args .tally) = c .count2 .ensures ∙ rw written in
     (rw (tallied-accepted (args .b) (args .tally) f accepted, after, tally), rw accepted (fed .ensures .1), call .tally-verdict .ensures .1)

@@ -8,16 +8,17 @@ use native.Mathlib.Omega.{arith}
 use borrow.Author.Needs.{needs}
 use lib.ListN.{length, take}
 use lib.Seq.{take-suc, take-all}
+use Rattle.recognisers.specs.Number.{recognisers, labels}
 use Rattle.tallies.specs.Tally.{rowOfCounts, countsOf, addsUp}
 use Rattle.tallies.proofs.TallyLaws.{adds-snoc, before-or-last}
 use Rattle.tallies.proofs.table.adds_up.Statement.{statement}
 use Rattle.tallies.proofs.table.adds_up.Tie as tie
 
 abbrev Inv-loop : tie.InvT-loop
-Inv-loop n tally all₀ k₀ all k = (k ≤ 18) × (length tally ≡ 18) × (all ≡ addsUp n (take k tally)) × ((j : ℕ) → j < k → length (countsOf tally j) ≡ 38)
+Inv-loop n tally all₀ k₀ all k = (k ≤ recognisers) × (length tally ≡ recognisers) × (all ≡ addsUp n (take k tally)) × ((j : ℕ) → j < k → length (countsOf tally j) ≡ labels)
 
 abbrev μ-loop : tie.MeasureT-loop
-μ-loop n tally all₀ k₀ all k = 18 - k
+μ-loop n tally all₀ k₀ all k = recognisers - k
 
 loop-holds : tie.Need-loop-holds Inv-loop μ-loop
 unfolding addsUp
@@ -43,7 +44,7 @@ loop-again c =
     let at-loop = c .before .before .before in
     let inv = at-loop .loop .inv in
     let tally = at-loop .before .args .t1 in
-    (omega arith, inv .1, rw (add-one (at-loop .loop .k), take-suc tally (at-loop .loop .k) (rowOfCounts []) (omega arith), adds-snoc, c .total .ensures .0, inv .2), λ j h. before-or-last (λ j. length (countsOf tally j) ≡ 38) (at-loop .loop .k) (inv .3) (c .total .ensures .1) j h)
+    (omega arith, inv .1, rw (add-one (at-loop .loop .k), take-suc tally (at-loop .loop .k) (rowOfCounts []) (omega arith), adds-snoc, c .total .ensures .0, inv .2), λ j h. before-or-last (λ j. length (countsOf tally j) ≡ labels) (at-loop .loop .k) (inv .3) (c .total .ensures .1) j h)
 
 returns : tie.Need-returns Inv-loop μ-loop
 returns c = let inv = c .before .loop .inv in (inv .2 ∙ rw (take-all (c .before .loop .k) (c .before .before .args .t1) (omega arith)), (inv .1, λ j h. inv .3 j (omega arith)))

@@ -6,16 +6,17 @@ use native.Mathlib.Omega.{arith}
 use borrow.Author.Needs.{needs}
 use lib.ListN.{length, take, length-map}
 use lib.Seq.{take-suc, take-all}
+use Rattle.recognisers.specs.Number.{labels}
 use Rattle.tallies.specs.Tally.{totalOf}
 use Rattle.tallies.proofs.TallyLaws.{total-snoc}
 use Rattle.tallies.proofs.table.total.Statement.{statement}
 use Rattle.tallies.proofs.table.total.Tie as tie
 
 abbrev Inv-loop : tie.InvT-loop
-Inv-loop counts sum₀ c₀ sum c = (c ≤ 38) × (sum ≤ c * 4294967295) × (length counts ≡ 38) × (sum ≡ totalOf (take c counts))
+Inv-loop counts sum₀ c₀ sum c = (c ≤ labels) × (sum ≤ c * 4294967295) × (length counts ≡ labels) × (sum ≡ totalOf (take c counts))
 
 abbrev μ-loop : tie.MeasureT-loop
-μ-loop counts sum₀ c₀ sum c = 38 - c
+μ-loop counts sum₀ c₀ sum c = labels - c
 
 loop-holds : tie.Need-loop-holds Inv-loop μ-loop
 unfolding totalOf
