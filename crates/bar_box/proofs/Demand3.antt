@@ -26,7 +26,7 @@ use Rattle.bar_box.proofs.SheetLaws.{length-rows}
 use Rattle.bar_box.proofs.OrdinalLaws.{length-numbered, place-at}
 use Rattle.bar_box.proofs.BoxLaws.{drop-replicate}
 use Rattle.bar_box.proofs.RowPairs.{pair-in}
-use Rattle.bar_box.proofs.FeedLists.{Sound, sound-empty, sound-after, verdicts-after, box-after, rows-after, at-start, one-accepted, one-box, one-rows}
+use Rattle.bar_box.proofs.FeedLists.{Sound, sound-empty, sound-after, verdicts-after, box-after, rows-after, one-accepted, one-box, one-rows}
 use Rattle.bar_box.proofs.LookBack.{look-back, look-ordinal, look-beyond, pair-up-to}
 
 -- ---- every box without bars
@@ -46,12 +46,11 @@ module _ (b : BarBox) (start : NoBars b) (fs : List Feed) where
 
   -- the box is the one that the joined history leaves
   joined-box : boxAfter b fs ≡ takenIn b joined
-  joined-box = ap (λ x. boxAfter x fs) (at-start b start) ∙ box-after b start [] fs
+  joined-box = box-after b start fs
 
   -- the joined rows are those of the joined history
   joined-rows : joinedRows b fs ≡ rowsOf (b .thresholds) 0 [] joined
-  unfolding rowsOf
-  joined-rows = ap (λ x. joinedRows x fs) (at-start b start) ∙ rows-after b start [] fs
+  joined-rows = rows-after b start fs
 
   -- the box, place for place
   whole-box : boxAfter b fs ≡ record { thresholds = b .thresholds; count = length joined; bars = newest places (numbered 0 joined) ++ drop (length joined) (b .bars) }
@@ -104,7 +103,7 @@ module _ (b : BarBox) (start : NoBars b) (fs : List Feed) where
       let h = joined in
       record {
         -- "A feed is refused exactly as the list of refusals says, with the history's count for N and the fresh box's thresholds."
-        refusals = ap (λ x. verdictsOf x fs) (at-start b start) ∙ verdicts-after b start [] fs;
+        refusals = verdicts-after b start fs;
         -- "The joined sheet rows are all of them, in the order of the history." "Sheet rows are equal byte for byte."
         same-rows = joined-rows ∙ sym (one-rows b start h sheet joined-sound room);
         -- "boxes as whole records, with the bits of each price"

@@ -1,10 +1,10 @@
--- A list of feeds to the box that a history left, against the same list to the plain history: the verdicts, the box and the joined rows;
+-- A list of feeds to a box without bars, against the same list to the plain history: the verdicts, the box and the joined rows;
 -- and one feed of a whole history to a box without bars. Assumes nothing.
 use Prim.Native.Nat.{ℕ, _*_, _≤_}
 use mathlib.Core.Path.{_≡_, refl, ap, sym, _∙_}
 use mathlib.Core.Logic.{_⊎_, inl, inr}
 use mathlib.Core.Bool.{true}
-use mathlib.Core.List.{List, [], _∷_, _++_, append-assoc, append-nil}
+use mathlib.Core.List.{List, [], _∷_, _++_, flatten, append-nil}
 use native.Mathlib.Omega.{arith}
 use native.Mathlib.Nat.{zero-add}
 use lib.ListN.{length, length-append}
@@ -17,9 +17,10 @@ use Rattle.recognisers.specs.Number.{rowBytes, mostBars}
 use Rattle.bar_box.specs.declared.boxes.BarBox.{BarBox}
 use Rattle.bar_box.specs.Sheet.{rowsOf}
 use Rattle.bar_box.specs.Box.{takenIn, leaves}
-use Rattle.bar_box.specs.History.{Feed, verdictOn, appended, historyAfter, verdictsOn, fed, boxAfter, verdictsOf, rowsIn, joinedRows, pricesOf, oneFeed, NoBars}
+use Rattle.bar_box.specs.History.{Feed, verdictOn, appended, historyAfter, verdictsOn, fed, boxLeft, boxAfter, verdictsOf, rowsIn, joinedRows, pricesOf, oneFeed, NoBars}
 use Rattle.bar_box.proofs.SheetLaws.{rows-append}
 use Rattle.bar_box.proofs.BoxLaws.{taken-none}
+use Rattle.bar_box.proofs.CallLists.{kept, built, after-follows, each-follows}
 use Rattle.bar_box.proofs.PriceLaws.{length-prices, bars-prices}
 use Rattle.bar_box.proofs.FeedSteps.{fits, accepts, verdict-step, box-step, rows-step}
 
@@ -43,11 +44,9 @@ sound-by t h f (Denied r) e s = s
 
 -- after a list of feeds
 pub sound-after : (t : Thresholds) (h : List Bar) (fs : List Feed) → Sound t h → Sound t (historyAfter t h fs)
-unfolding historyAfter
-sound-after t h [] s = s
-sound-after t h (f ∷ fs) s = sound-after t (appended t h f) fs (sound-by t h f (verdictOn t h f) refl s)
+sound-after t h fs s = kept (appended t) (Sound t) (λ h f. sound-by t h f (verdictOn t h f) refl) h fs s
 
--- ---- every list of feeds, after a history
+-- ---- every list of feeds
 
 -- the rows of a history, and then those that a feed gives, by its verdict, are the rows of the history after the feed
 rows-by : (t : Thresholds) (v : Verdict) (h bars : List Bar) → rowsOf t 0 [] h ++ leaves v [] (rowsOf t (length h) h bars) ≡ rowsOf t 0 [] (leaves v h (h ++ bars))
@@ -55,31 +54,37 @@ rows-by t Accepted h bars = sym (rows-append t 0 [] h bars ∙ rw zero-add)
 rows-by t (Denied r) h bars = append-nil (rowsOf t 0 [] h)
 
 module _ (b : BarBox) (start : NoBars b) where
-  -- each feed is refused as the history says
-  pub verdicts-after : (h : List Bar) (fs : List Feed) → verdictsOf (takenIn b h) fs ≡ verdictsOn (b .thresholds) h fs
-  unfolding verdictsOf verdictsOn
-  verdicts-after h [] = refl
-  verdicts-after h (f ∷ fs) = rw (verdict-step b start h f, box-step b start h f, verdicts-after (appended (b .thresholds) h f) fs)
+  abbrev t : Thresholds
+  t = b .thresholds
 
-  -- the box is the one that the history after the feeds leaves
-  pub box-after : (h : List Bar) (fs : List Feed) → boxAfter (takenIn b h) fs ≡ takenIn b (historyAfter (b .thresholds) h fs)
-  unfolding boxAfter historyAfter
-  box-after h [] = refl
-  box-after h (f ∷ fs) = rw (box-step b start h f) (box-after (appended (b .thresholds) h f) fs)
+  -- the box follows the history if it is the one that the history leaves
+  abbrev pub Follows : BarBox → List Bar → Type 0
+  Follows x h = x ≡ takenIn b h
 
-  -- the rows of the history, and then the joined rows, are the rows of the history after the feeds
-  pub rows-after : (h : List Bar) (fs : List Feed) → let t = b .thresholds in rowsOf t 0 [] h ++ joinedRows (takenIn b h) fs ≡ rowsOf t 0 [] (historyAfter t h fs)
-  unfolding joinedRows historyAfter
-  rows-after h [] = append-nil (rowsOf (b .thresholds) 0 [] h)
-  rows-after h (f ∷ fs) =
-      let t = b .thresholds in
-      let given = leaves (verdictOn t h f) [] (rowsOf t (length h) h (barsOf (f .prices))) in
-      rw (rows-step b start h f, box-step b start h f, ← append-assoc (rowsOf t 0 [] h) given, rows-by t (verdictOn t h f) h (barsOf (f .prices)))
-      (rows-after (appended t h f) fs)
+  pub box-follows : (x : BarBox) (h : List Bar) (f : Feed) → Follows x h → Follows (boxLeft x f) (appended t h f)
+  box-follows x h f e = rw e (box-step b start h f)
 
-  -- the box without bars is the one that the empty history leaves
-  pub at-start : b ≡ takenIn b []
+  -- as the box without bars follows the empty one
+  pub at-start : Follows b []
   at-start = sym (taken-none b (start .all-places))
+
+  -- each feed is refused as the history says
+  pub verdicts-after : (fs : List Feed) → verdictsOf b fs ≡ verdictsOn t [] fs
+  verdicts-after fs = each-follows boxLeft (appended t) Follows box-follows (λ x f. fed x f .verdict) (verdictOn t) (λ x h f e. rw e (verdict-step b start h f)) b [] fs at-start
+
+  -- the box is the one that the joined history leaves
+  pub box-after : (fs : List Feed) → boxAfter b fs ≡ takenIn b (historyAfter t [] fs)
+  box-after fs = after-follows boxLeft (appended t) Follows box-follows b [] fs at-start
+
+  -- the joined rows are those of the joined history
+  abbrev rowsOn : List Bar → Feed → List ℕ
+  rowsOn h f = leaves (verdictOn t h f) [] (rowsOf t (length h) h (barsOf (f .prices)))
+
+  pub rows-after : (fs : List Feed) → joinedRows b fs ≡ rowsOf t 0 [] (historyAfter t [] fs)
+  unfolding rowsOf
+  rows-after fs =
+      ap flatten (each-follows boxLeft (appended t) Follows box-follows rowsIn rowsOn (λ x h f e. rw e (rows-step b start h f)) b [] fs at-start)
+      ∙ built (appended t) (rowsOf t 0 []) rowsOn (λ h f. rows-by t (verdictOn t h f) h (barsOf (f .prices))) [] fs
 
 -- ---- one feed of a whole history
 

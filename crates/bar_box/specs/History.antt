@@ -19,6 +19,7 @@ use Rattle.recognisers.specs.Refusal.{codesIn, answerIn, ordinalIn}
 use Rattle.bar_box.specs.declared.boxes.KeptBar.{KeptBar}
 use Rattle.bar_box.specs.declared.boxes.BarBox.{BarBox}
 use Rattle.bar_box.specs.declared.boxes.Outcome.{Outcome}
+use Rattle.bar_box.specs.Calls.{after, each, joined}
 use Rattle.bar_box.specs.Box.{keptBar, numbered, emptyPlace, madeOf, feedVerdict, leaves, fedOf, sheetOf, lookOf, lookAnswerOf}
 
 -- what a feed is lent
@@ -37,36 +38,33 @@ abbrev pub appended : Thresholds → List Bar → Feed → List Bar
 appended t history f = leaves (verdictOn t history f) history (history ++ barsOf (f .prices))
 
 -- the history after the feeds; from the empty one it is the joined history
-unfoldable pub historyAfter : Thresholds → List Bar → List Feed → List Bar
-historyAfter t history [] = history
-historyAfter t history (f ∷ fs) = historyAfter t (appended t history f) fs
+abbrev pub historyAfter : Thresholds → List Bar → List Feed → List Bar
+historyAfter t = after (appended t)
 
-unfoldable pub verdictsOn : Thresholds → List Bar → List Feed → List Verdict
-verdictsOn t history [] = []
-verdictsOn t history (f ∷ fs) = verdictOn t history f ∷ verdictsOn t (appended t history f) fs
+abbrev pub verdictsOn : Thresholds → List Bar → List Feed → List Verdict
+verdictsOn t = each (appended t) (verdictOn t)
 
 -- ---- the calls, as the contract of a feed has them
 
 abbrev pub fed : BarBox → Feed → Outcome
 fed b f = fedOf b (f .prices) (length (f .sheet))
 
--- the first feed is handed the fresh box, each later one the box that the feed before it left, refused or not
-unfoldable pub boxAfter : BarBox → List Feed → BarBox
-boxAfter b [] = b
-boxAfter b (f ∷ fs) = boxAfter (fed b f .after) fs
+abbrev pub boxLeft : BarBox → Feed → BarBox
+boxLeft b f = fed b f .after
 
-unfoldable pub verdictsOf : BarBox → List Feed → List Verdict
-verdictsOf b [] = []
-verdictsOf b (f ∷ fs) = fed b f .verdict ∷ verdictsOf (fed b f .after) fs
+abbrev pub boxAfter : BarBox → List Feed → BarBox
+boxAfter = after boxLeft
+
+abbrev pub verdictsOf : BarBox → List Feed → List Verdict
+verdictsOf = each boxLeft (λ b f. fed b f .verdict)
 
 -- the sheet rows of a feed: the bytes that it wrote for its bars, as its sheet stands when the feed returns; a refused feed gives none
 abbrev pub rowsIn : BarBox → Feed → List ℕ
 rowsIn b f = leaves (fed b f .verdict) [] (take (rowBytes * length (barsOf (f .prices))) (sheetOf b (f .prices) (f .sheet)))
 
 -- the joined sheet rows are all of them, in the order of the history
-unfoldable pub joinedRows : BarBox → List Feed → List ℕ
-joinedRows b [] = []
-joinedRows b (f ∷ fs) = rowsIn b f ++ joinedRows (fed b f .after) fs
+abbrev pub joinedRows : BarBox → List Feed → List ℕ
+joinedRows = joined boxLeft rowsIn
 
 -- the prices of bars, as a feed is lent them; and one feed of a whole history
 unfoldable pub pricesOf : List Bar → List Float

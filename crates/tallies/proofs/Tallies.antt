@@ -1,7 +1,7 @@
 -- What every list of feeds with a tally leaves, from a box without bars and the fresh tally. Assumes nothing.
 use Prim.Native.Nat.{ℕ, _+_, _*_, _/_, _≤_, _<_}
 use mathlib.Core.Bool.{true}
-use mathlib.Core.List.{List, [], _∷_, _++_}
+use mathlib.Core.List.{List, [], _++_, flatten}
 use mathlib.Core.Path.{_≡_, refl, ap, sym, _∙_}
 use native.Mathlib.Nat.{zero-add, add-zero}
 use native.Mathlib.Omega.{arith}
@@ -18,17 +18,18 @@ use Rattle.recognisers.specs.declared.call.Verdict.the-variants.{Accepted, Deni
 use Rattle.bar_box.specs.declared.boxes.BarBox.{BarBox}
 use Rattle.bar_box.specs.Sheet.{rowsOf}
 use Rattle.bar_box.specs.Box.{takenIn, leaves, fedOf, sheetOf}
-use Rattle.bar_box.specs.History.{Feed, verdictOn, appended, historyAfter, fed, boxAfter, verdictsOf, rowsIn, joinedRows, oneFeed, NoBars}
+use Rattle.bar_box.specs.Calls.{after, each}
+use Rattle.bar_box.specs.History.{Feed, verdictOn, appended, historyAfter, fed, boxLeft, boxAfter, verdictsOf, rowsIn, joinedRows, oneFeed, NoBars}
 use Rattle.bar_box.proofs.SheetLaws.{length-rows, rows-append}
 use Rattle.bar_box.proofs.RowPairs.{pair-in}
 use Rattle.bar_box.proofs.FeedSteps.{count-after, verdict-step, box-step, rows-step}
-use Rattle.bar_box.proofs.FeedLists.{sound-empty, sound-after, at-start, rows-after, one-rows}
+use Rattle.bar_box.proofs.CallLists.{after-follows, each-follows}
+use Rattle.bar_box.proofs.FeedLists.{sound-empty, sound-after, Follows, box-follows, at-start, box-after, rows-after, one-rows}
 use Rattle.bar_box.proofs.Demand3.{demand-3}
 use Rattle.tallies.specs.declared.table.TallyRow.{TallyRow}
-use Rattle.tallies.specs.declared.feeds.Tallied.{Tallied}
 use Rattle.tallies.specs.Tally.{freshTally, countsOf, cellOf, addsUp, v1In, rowsWith, gained, counted}
 use Rattle.tallies.specs.Feed.{verdictWith, talliedOf, talliedSheet}
-use Rattle.tallies.specs.History.{boxWith, tallyAfter, verdictsWith, sheetsWith, rowsAfter, sheetsOf, barsWith, TallyHolds, Tallies}
+use Rattle.tallies.specs.History.{WithTally, bothLeft, boxWith, tallyAfter, verdictsWith, sheetsWith, rowsWritten, rowsAfter, sheetsOf, barsWith, TallyHolds, Tallies}
 use Rattle.tallies.proofs.PlaceLaws.{at-place}
 use Rattle.tallies.proofs.TallyLaws.{row-adds, counts-gained, gained-same}
 use Rattle.tallies.proofs.CountLaws.{count-same}
@@ -40,6 +41,11 @@ use Rattle.tallies.proofs.FeedLaws.{plain-verdict}
 -- its rows, counted from nothing
 abbrev pub tallyOf : Thresholds → List Bar → List TallyRow
 tallyOf t h = counted (rowsOf t 0 [] h) freshTally
+
+-- before the first bar the tally is the fresh one
+pub tally-none : (t : Thresholds) → tallyOf t [] ≡ freshTally
+unfolding rowsOf
+tally-none t = none-counted freshTally
 
 -- each row adds up to the history's count
 pub tally-adds : (t : Thresholds) (h : List Bar) → addsUp (length h) (tallyOf t h) ≡ true
@@ -98,30 +104,25 @@ module _ (b : BarBox) (start : NoBars b) where
 
   -- ---- every list of feeds, after a history
 
-  box-list : (h : List Bar) (fs : List Feed) → boxWith (takenIn b h) (tally h) fs ≡ boxAfter (takenIn b h) fs
-  unfolding boxWith boxAfter
-  box-list h [] = refl
-  box-list h (f ∷ fs) = rw (tallied-step h f, box-step b start h f) (box-list (appended t h f) fs)
+  -- box and tally follow the history
+  abbrev Both : WithTally → List Bar → Type 0
+  Both s h = s ≡ (takenIn b h, tally h)
 
-  tally-list : (h : List Bar) (fs : List Feed) → tallyAfter (takenIn b h) (tally h) fs ≡ tally (historyAfter t h fs)
-  unfolding tallyAfter historyAfter
-  tally-list h [] = refl
-  tally-list h (f ∷ fs) = rw (tallied-step h f) (tally-list (appended t h f) fs)
+  both-follow : (s : WithTally) (h : List Bar) (f : Feed) → Both s h → Both (bothLeft s f) (appended t h f)
+  both-follow s h f e = rw (e, tallied-step h f)
 
-  verdict-list : (h : List Bar) (fs : List Feed) → verdictsWith (takenIn b h) (tally h) fs ≡ verdictsOf (takenIn b h) fs
-  unfolding verdictsWith verdictsOf
-  verdict-list h [] = refl
-  verdict-list h (f ∷ fs) = rw (tallied-step h f, box-step b start h f, verdict-list (appended t h f) fs)
+  both-start : Both (b, freshTally) []
+  both-start = rw (tally-none t, ← at-start b start)
 
-  sheet-list : (h : List Bar) (fs : List Feed) → sheetsWith (takenIn b h) (tally h) fs ≡ sheetsOf (takenIn b h) fs
-  unfolding sheetsWith sheetsOf
-  sheet-list h [] = refl
-  sheet-list h (f ∷ fs) = rw (sheet-step h f, tallied-step h f, box-step b start h f, sheet-list (appended t h f) fs)
+  both-after : (fs : List Feed) → Both (after bothLeft (b, freshTally) fs) (historyAfter t [] fs)
+  both-after fs = after-follows bothLeft (appended t) Both both-follow (b, freshTally) [] fs both-start
 
-  row-list : (h : List Bar) (fs : List Feed) → rowsAfter (takenIn b h) (tally h) fs ≡ joinedRows (takenIn b h) fs
-  unfolding rowsAfter joinedRows
-  row-list h [] = refl
-  row-list h (f ∷ fs) = rw (sheet-step h f, tallied-step h f, box-step b start h f, row-list (appended t h f) fs)
+  -- beside a list of feeds without a tally each feed gives the same
+  beside : {A : Type 0} (gives : WithTally → Feed → A) (plain : BarBox → Feed → A) → ((h : List Bar) (f : Feed) → gives (takenIn b h, tally h) f ≡ plain (takenIn b h) f)
+      → (fs : List Feed) → each bothLeft gives (b, freshTally) fs ≡ each boxLeft plain b fs
+  beside gives plain agree fs =
+      each-follows bothLeft (appended t) Both both-follow gives (λ h. plain (takenIn b h)) (λ s h f e. rw e (agree h f)) (b, freshTally) [] fs both-start
+      ∙ sym (each-follows boxLeft (appended t) (Follows b start) (box-follows b start) plain (λ h. plain (takenIn b h)) (λ x h f e. rw e) b [] fs (at-start b start))
 
 -- ---- what the cells are
 
@@ -156,11 +157,6 @@ tally-bars t h =
 
 -- ---- the theorem
 
--- before the first bar the tally is the fresh one
-pub tally-none : (t : Thresholds) → tallyOf t [] ≡ freshTally
-unfolding rowsOf
-tally-none t = none-counted freshTally
-
 module _ (b : BarBox) (start : NoBars b) (fs : List Feed) where
   abbrev joined : List Bar
   joined = historyAfter (b .thresholds) [] fs
@@ -170,11 +166,10 @@ module _ (b : BarBox) (start : NoBars b) (fs : List Feed) where
   from-fresh F G e = rw (tally-none (b .thresholds), ← at-start b start) at e
 
   joined-tally : tallyAfter b freshTally fs ≡ tallyOf (b .thresholds) joined
-  joined-tally = from-fresh (λ x tally. tallyAfter x tally fs) (λ x tally. tallyOf (b .thresholds) joined) (tally-list b start [] fs)
+  joined-tally = ap (λ (s : WithTally). s .1) (both-after b start fs)
 
   joined-rows : joinedRows b fs ≡ rowsOf (b .thresholds) 0 [] joined
-  unfolding rowsOf
-  joined-rows = ap (λ x. joinedRows x fs) (at-start b start) ∙ rows-after b start [] fs
+  joined-rows = rows-after b start fs
 
   module _ (sheet : List ℕ) (room : rowBytes * length joined ≤ length sheet) where
     abbrev one : Feed
@@ -197,10 +192,10 @@ module _ (b : BarBox) (start : NoBars b) (fs : List Feed) where
         let h = joined in
         let t = b .thresholds in
         record {
-          same-verdicts = from-fresh (λ x tally. verdictsWith x tally fs) (λ x tally. verdictsOf x fs) (verdict-list b start [] fs);
-          same-sheets = from-fresh (λ x tally. sheetsWith x tally fs) (λ x tally. sheetsOf x fs) (sheet-list b start [] fs);
-          same-rows = from-fresh (λ x tally. rowsAfter x tally fs) (λ x tally. joinedRows x fs) (row-list b start [] fs);
-          same-box = from-fresh (λ x tally. boxWith x tally fs) (λ x tally. boxAfter x fs) (box-list b start [] fs);
+          same-verdicts = beside b start (λ s f. talliedOf (s .0) (s .1) f .verdict) (λ x f. fed x f .verdict) (λ h f. rw (tallied-step b start h f)) fs;
+          same-sheets = beside b start (λ s f. talliedSheet (s .0) (s .1) f) (λ x f. sheetOf x (f .prices) (f .sheet)) (sheet-step b start) fs;
+          same-rows = ap flatten (beside b start rowsWritten rowsIn (λ h f. rw (sheet-step b start h f, tallied-step b start h f)) fs);
+          same-box = ap (λ (s : WithTally). s .0) (both-after b start fs) ∙ sym (box-after b start fs);
           demand-3 = demand-3 .holds b start fs sheet room;
           -- "each row adds up to the number of bars fed"
           sums = λ k known. rw joined-tally (row-adds (length h) (tallyOf t h) (tally-adds t h) k (omega (arith, counted-shaped freshTally fresh-shaped (rowsOf t 0 [] h) .0)));

@@ -1,7 +1,7 @@
 -- What a list of feeds with a tally leaves, said of the list at once. The first part follows the calls; the second says what holds of them,
 -- beside the same list of feeds without a tally, the joined history and the joined rows of demand 3.
 use Prim.Native.Nat.{ℕ, _+_, _*_, _≤_, _<_}
-use mathlib.Core.List.{List, [], _∷_, _++_}
+use mathlib.Core.List.{List, []}
 use mathlib.Core.Path.{_≡_}
 use lib.Dec.{eqb}
 use lib.ListN.{length, take}
@@ -13,43 +13,44 @@ use Rattle.recognisers.specs.Threshold.{Thresholds}
 use Rattle.recognisers.specs.declared.call.Verdict.{Verdict}
 use Rattle.bar_box.specs.declared.boxes.BarBox.{BarBox}
 use Rattle.bar_box.specs.Box.{leaves, sheetOf}
-use Rattle.bar_box.specs.History.{Feed, historyAfter, fed, boxAfter, verdictsOf, joinedRows, oneFeed, Holds, NoBars}
+use Rattle.bar_box.specs.Calls.{after, each, joined}
+use Rattle.bar_box.specs.History.{Feed, historyAfter, boxLeft, boxAfter, verdictsOf, joinedRows, oneFeed, Holds, NoBars}
 use Rattle.tallies.specs.declared.table.TallyRow.{TallyRow}
-use Rattle.tallies.specs.declared.feeds.Tallied.{Tallied}
 use Rattle.tallies.specs.Tally.{freshTally, countsOf, cellOf, totalOf, countBelow, rowsWith}
 use Rattle.tallies.specs.Feed.{talliedOf, talliedSheet}
 
 -- ---- the calls, as the contract of a feed with a tally has them
 
--- the first feed is handed the fresh box and the fresh tally, each later one those that the feed before it left, refused or not
-unfoldable pub boxWith : BarBox → List TallyRow → List Feed → BarBox
-boxWith b tally [] = b
-boxWith b tally (f ∷ fs) = boxWith (talliedOf b tally f .after) (talliedOf b tally f .tally) fs
+-- a box with its tally, and what a feed leaves of both
+abbrev pub WithTally : Type 0
+WithTally = BarBox × List TallyRow
 
-unfoldable pub tallyAfter : BarBox → List TallyRow → List Feed → List TallyRow
-tallyAfter b tally [] = tally
-tallyAfter b tally (f ∷ fs) = tallyAfter (talliedOf b tally f .after) (talliedOf b tally f .tally) fs
+abbrev pub bothLeft : WithTally → Feed → WithTally
+bothLeft s f = let x = talliedOf (s .0) (s .1) f in (x .after, x .tally)
 
-unfoldable pub verdictsWith : BarBox → List TallyRow → List Feed → List Verdict
-verdictsWith b tally [] = []
-verdictsWith b tally (f ∷ fs) = talliedOf b tally f .verdict ∷ verdictsWith (talliedOf b tally f .after) (talliedOf b tally f .tally) fs
+abbrev pub boxWith : BarBox → List TallyRow → List Feed → BarBox
+boxWith b tally fs = after bothLeft (b, tally) fs .0
+
+abbrev pub tallyAfter : BarBox → List TallyRow → List Feed → List TallyRow
+tallyAfter b tally fs = after bothLeft (b, tally) fs .1
+
+abbrev pub verdictsWith : BarBox → List TallyRow → List Feed → List Verdict
+verdictsWith b tally fs = each bothLeft (λ s f. talliedOf (s .0) (s .1) f .verdict) (b, tally) fs
 
 -- the sheets, as they stand when their feeds return
-unfoldable pub sheetsWith : BarBox → List TallyRow → List Feed → List (List ℕ)
-sheetsWith b tally [] = []
-sheetsWith b tally (f ∷ fs) = talliedSheet b tally f ∷ sheetsWith (talliedOf b tally f .after) (talliedOf b tally f .tally) fs
+abbrev pub sheetsWith : BarBox → List TallyRow → List Feed → List (List ℕ)
+sheetsWith b tally fs = each bothLeft (λ s f. talliedSheet (s .0) (s .1) f) (b, tally) fs
 
 -- and the joined rows
-unfoldable pub rowsAfter : BarBox → List TallyRow → List Feed → List ℕ
-rowsAfter b tally [] = []
-rowsAfter b tally (f ∷ fs) =
-    leaves (talliedOf b tally f .verdict) [] (take (rowBytes * length (barsOf (f .prices))) (talliedSheet b tally f))
-    ++ rowsAfter (talliedOf b tally f .after) (talliedOf b tally f .tally) fs
+abbrev pub rowsWritten : WithTally → Feed → List ℕ
+rowsWritten s f = leaves (talliedOf (s .0) (s .1) f .verdict) [] (take (rowBytes * length (barsOf (f .prices))) (talliedSheet (s .0) (s .1) f))
+
+abbrev pub rowsAfter : BarBox → List TallyRow → List Feed → List ℕ
+rowsAfter b tally fs = joined bothLeft rowsWritten (b, tally) fs
 
 -- those of feeds without a tally
-unfoldable pub sheetsOf : BarBox → List Feed → List (List ℕ)
-sheetsOf b [] = []
-sheetsOf b (f ∷ fs) = sheetOf b (f .prices) (f .sheet) ∷ sheetsOf (fed b f .after) fs
+abbrev pub sheetsOf : BarBox → List Feed → List (List ℕ)
+sheetsOf = each boxLeft (λ b f. sheetOf b (f .prices) (f .sheet))
 
 -- ---- what holds of them
 

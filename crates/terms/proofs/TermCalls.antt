@@ -2,7 +2,7 @@
 use Prim.Native.Nat.{ℕ, _+_, _*_, _≤_}
 use mathlib.Core.Path.{_≡_, refl, ap, sym, _∙_}
 use mathlib.Core.Bool.{true}
-use mathlib.Core.List.{List, [], _∷_, _++_, append-assoc, append-nil}
+use mathlib.Core.List.{List, [], _∷_, _++_, flatten, append-nil}
 use native.Mathlib.Omega.{arith}
 use native.Mathlib.Nat.{zero-add}
 use lib.ListN.{length, length-append}
@@ -16,6 +16,8 @@ use Rattle.measures.specs.Bar.{barsOf}
 use Rattle.recognisers.specs.Threshold.{standardSet, validOf}
 use borrow.Author.Tests.{not-false}
 use Rattle.bar_box.specs.Box.{leaves, fedOf}
+use Rattle.bar_box.specs.Calls.{after, each}
+use Rattle.bar_box.proofs.CallLists.{kept, built, after-follows, each-follows}
 use Rattle.bar_box.proofs.SheetLaws.{rows-append}
 use Rattle.bar_box.proofs.BoxLaws.{taken-none}
 use Rattle.bar_box.specs.History.{pricesOf, oneFeed, historyAfter, verdictOn as boxVerdictOn, appended as boxAppended}
@@ -24,9 +26,10 @@ use Rattle.bar_box.proofs.Demand3.{standard-valid, fresh-none, demand-3}
 use Rattle.bar_box.proofs.FeedSteps.{none-true, fits}
 use Rattle.bar_box.proofs.FeedLists.{Sound, sound-empty, one-accepted, one-box, one-rows}
 use Rattle.trading_hours.specs.declared.hours.Hours.{Hours}
+use Rattle.terms.specs.declared.events.Carried.{Carried}
 use Rattle.terms.specs.declared.layers.Layer.{Layer}
 use Rattle.terms.specs.Events.{Event, nothingYet, endedOf, carriedOf}
-use Rattle.terms.specs.History.{Call, eventsIn, verdictOn, appended, eventsAfter, verdictsOn, layerAfter, verdictsOf, joinedEnded, joinedRows, Holds, NoneYet, TermCalls}
+use Rattle.terms.specs.History.{Call, eventsIn, verdictOn, appended, eventsAfter, called, layerLeft, layerAfter, endedInCall, joinedEnded, rowsOfCall, joinedRows, Holds, NoneYet, TermCalls}
 use Rattle.trading_hours.specs.Hours.{mostWindows, windowsOf, withZeros, validHours, risingFrom, termLength}
 use Rattle.trading_hours.proofs.HourLaws.{zeros-windows}
 use Rattle.terms.specs.Layer.{wholeDay, soundCarried, validLayer, makeVerdict, taken, madeBy, madeOf}
@@ -52,56 +55,58 @@ module _ (l : Layer) (start : NoneYet l) where
   abbrev ended : List Event → List Bar
   ended es = endedOf (l .hours) (l .minutes) nothingYet es
 
-  abbrev after : List Event → Layer
-  after es = layerOf l (start .no-bars) es
+  abbrev layer : List Event → Layer
+  layer es = layerOf l (start .no-bars) es
 
   abbrev more : List Event → Call → List Event
   more es x = appended t (l .hours) (l .minutes) es x
 
   -- ---- the lists
 
-  verdicts-after : (es : List Event) (xs : List Call) → Kept l (start .no-bars) es → verdictsOf (after es) xs ≡ verdictsOn t (l .hours) (l .minutes) es xs
-  unfolding verdictsOf verdictsOn
-  verdicts-after es [] k = refl
-  verdicts-after es (x ∷ xs) k = rw (verdict-step l (start .no-bars) es x k, layer-step l (start .no-bars) es x k, verdicts-after (more es x) xs (kept-step l (start .no-bars) es x k))
+  -- a layer follows the events that leave it, and keeps the rules
+  Follows : Layer → List Event → Type 0
+  Follows x es = (x ≡ layer es) × Kept l (start .no-bars) es
 
-  layer-after : (es : List Event) (xs : List Call) → Kept l (start .no-bars) es → layerAfter (after es) xs ≡ after (eventsAfter t (l .hours) (l .minutes) es xs)
-  unfolding layerAfter eventsAfter
-  layer-after es [] k = refl
-  layer-after es (x ∷ xs) k = rw (layer-step l (start .no-bars) es x k) (layer-after (more es x) xs (kept-step l (start .no-bars) es x k))
+  follows : (x : Layer) (es : List Event) (c : Call) → Follows x es → Follows (layerLeft x c) (more es c)
+  unfolding Follows
+  follows x es c r = (rw (r .0) (layer-step l (start .no-bars) es c (r .1)), kept-step l (start .no-bars) es c (r .1))
 
-  -- the rows of the term bars so far, and then those that a call gives, by its verdict
-  rows-by : (v : Verdict) (es new : List Event)
-      → let old = ended es in
-      rowsOf t 0 [] old ++ leaves v [] (rowsOf t (length old) old (endedOf (l .hours) (l .minutes) (carriedOf (l .hours) (l .minutes) nothingYet es) new)) ≡ rowsOf t 0 [] (ended (leaves v es (es ++ new)))
-  rows-by Accepted es new =
-      let old = ended es in
-      rw (ended-append (l .hours) (l .minutes) nothingYet es new)
-      (sym (rows-append t 0 [] old (endedOf (l .hours) (l .minutes) (carriedOf (l .hours) (l .minutes) nothingYet es) new) ∙ rw zero-add))
-  rows-by (Denied r) es new = append-nil (rowsOf t 0 [] (ended es))
+  -- the layer is the one that no event leaves
+  at-start : Follows l []
+  unfolding Follows endedOf carriedOf
+  at-start = (rw (taken-none (l .inner) (start .no-bars .all-places), ← start .nothing), kept-none l (start .no-bars))
 
-  rows-after : (es : List Event) (xs : List Call) → Kept l (start .no-bars) es → rowsOf t 0 [] (ended es) ++ joinedRows (after es) xs ≡ rowsOf t 0 [] (ended (eventsAfter t (l .hours) (l .minutes) es xs))
-  unfolding joinedRows eventsAfter
-  rows-after es [] k = append-nil (rowsOf t 0 [] (ended es))
-  rows-after es (x ∷ xs) k =
-      let v = verdictOn t (l .hours) (l .minutes) es x in
-      let given = leaves v [] (rowsOf t (length (ended es)) (ended es) (endedOf (l .hours) (l .minutes) (carriedOf (l .hours) (l .minutes) nothingYet es) (eventsIn x))) in
-      rw (rows-step l (start .no-bars) es x k, layer-step l (start .no-bars) es x k, ← append-assoc (rowsOf t 0 [] (ended es)) given, rows-by v es (eventsIn x))
-      (rows-after (more es x) xs (kept-step l (start .no-bars) es x k))
+  layer-after : (xs : List Call) → Follows (layerAfter l xs) (eventsAfter t (l .hours) (l .minutes) [] xs)
+  layer-after xs = after-follows layerLeft more Follows follows l [] xs at-start
 
-  -- the term bars that ended so far, and then those that end in a call, by its verdict
-  ended-by : (v : Verdict) (es new : List Event) → ended es ++ leaves v [] (endedOf (l .hours) (l .minutes) (carriedOf (l .hours) (l .minutes) nothingYet es) new) ≡ ended (leaves v es (es ++ new))
+  each-after : {A : Type 0} (gives : Layer → Call → A) (says : List Event → Call → A) → ((es : List Event) (x : Call) → Kept l (start .no-bars) es → gives (layer es) x ≡ says es x)
+      → (xs : List Call) → each layerLeft gives l xs ≡ each more says [] xs
+  unfolding Follows
+  each-after gives says agree xs = each-follows layerLeft more Follows follows gives says (λ x es c r. rw (r .0) (agree es c (r .1))) l [] xs at-start
+
+  -- the term bars that end in a call, and their rows, by its verdict
+  abbrev carried : List Event → Carried
+  carried es = carriedOf (l .hours) (l .minutes) nothingYet es
+
+  abbrev on : List Event → Call → Verdict
+  on = verdictOn t (l .hours) (l .minutes)
+
+  abbrev endedOn : List Event → Call → List Bar
+  endedOn es x = leaves (on es x) [] (endedOf (l .hours) (l .minutes) (carried es) (eventsIn x))
+
+  abbrev rowsOn : List Event → Call → List ℕ
+  rowsOn es x = leaves (on es x) [] (rowsOf t (length (ended es)) (ended es) (endedOf (l .hours) (l .minutes) (carried es) (eventsIn x)))
+
+  ended-by : (v : Verdict) (es new : List Event) → ended es ++ leaves v [] (endedOf (l .hours) (l .minutes) (carried es) new) ≡ ended (leaves v es (es ++ new))
   ended-by Accepted es new = sym (ended-append (l .hours) (l .minutes) nothingYet es new)
   ended-by (Denied r) es new = append-nil (ended es)
 
-  ended-after : (es : List Event) (xs : List Call) → Kept l (start .no-bars) es → ended es ++ joinedEnded (after es) xs ≡ ended (eventsAfter t (l .hours) (l .minutes) es xs)
-  unfolding joinedEnded eventsAfter
-  ended-after es [] k = append-nil (ended es)
-  ended-after es (x ∷ xs) k =
-      let v = verdictOn t (l .hours) (l .minutes) es x in
-      let new = endedOf (l .hours) (l .minutes) (carriedOf (l .hours) (l .minutes) nothingYet es) (eventsIn x) in
-      rw (verdict-step l (start .no-bars) es x k, layer-step l (start .no-bars) es x k, ← append-assoc (ended es) (leaves v [] new), ended-by v es (eventsIn x))
-      (ended-after (more es x) xs (kept-step l (start .no-bars) es x k))
+  rows-by : (v : Verdict) (es new : List Event)
+      → rowsOf t 0 [] (ended es) ++ leaves v [] (rowsOf t (length (ended es)) (ended es) (endedOf (l .hours) (l .minutes) (carried es) new)) ≡ rowsOf t 0 [] (ended (leaves v es (es ++ new)))
+  rows-by Accepted es new =
+      rw (ended-append (l .hours) (l .minutes) nothingYet es new)
+      (sym (rows-append t 0 [] (ended es) (endedOf (l .hours) (l .minutes) (carried es) new) ∙ rw zero-add))
+  rows-by (Denied r) es new = append-nil (rowsOf t 0 [] (ended es))
 
   -- ---- what the refusals see to
 
@@ -114,15 +119,11 @@ module _ (l : Layer) (start : NoneYet l) where
       rw (ended-append (l .hours) (l .minutes) nothingYet es (eventsIn x)) record { few = rw length-append (omega (arith, met .few)); valid = λ some. met .valid }
   sound-by (Denied r) es x e k s = s
 
-  sound-after : (es : List Event) (xs : List Call) → Kept l (start .no-bars) es → Sound t (ended es) → Sound t (ended (eventsAfter t (l .hours) (l .minutes) es xs))
-  unfolding eventsAfter
-  sound-after es [] k s = s
-  sound-after es (x ∷ xs) k s = sound-after (more es x) xs (kept-step l (start .no-bars) es x k) (sound-by (verdictOn t (l .hours) (l .minutes) es x) es x refl k s)
-
-  -- the layer is the one that no event leaves
-  at-start : l ≡ after []
-  unfolding endedOf carriedOf
-  at-start = rw (taken-none (l .inner) (start .no-bars .all-places), ← start .nothing)
+  sound-after : (xs : List Call) → Sound t (ended (eventsAfter t (l .hours) (l .minutes) [] xs))
+  unfolding endedOf
+  sound-after xs =
+      kept more (λ es. Kept l (start .no-bars) es × Sound t (ended es)) (λ es x p. (kept-step l (start .no-bars) es x (p .0), sound-by (on es x) es x refl (p .0) (p .1)))
+      [] xs (kept-none l (start .no-bars), sound-empty t) .1
 
   -- ---- the one list of events
 
@@ -132,27 +133,27 @@ module _ (l : Layer) (start : NoneYet l) where
 
     -- no more than 1,000,000 term bars ended in it, and none if the thresholds are outside their limits
     ended-sound : Sound t (ended events)
-    unfolding endedOf
-    ended-sound = sound-after [] xs (kept-none l (start .no-bars)) (sound-empty t)
+    ended-sound = sound-after xs
 
     -- the layer is the one that the events leave
-    pub joined-layer : layerAfter l xs ≡ after events
-    joined-layer = ap (λ (x : Layer). layerAfter x xs) at-start ∙ layer-after [] xs (kept-none l (start .no-bars))
+    pub joined-layer : layerAfter l xs ≡ layer events
+    unfolding Follows
+    joined-layer = layer-after xs .0
 
     -- the rows are those of the term bars that ended in it
     pub joined-rows : joinedRows l xs ≡ rowsOf t 0 [] (ended events)
     unfolding rowsOf endedOf
-    joined-rows = ap (λ (x : Layer). joinedRows x xs) at-start ∙ rows-after [] xs (kept-none l (start .no-bars))
+    joined-rows = ap flatten (each-after rowsOfCall rowsOn (rows-step l (start .no-bars)) xs) ∙ built more (λ es. rowsOf t 0 [] (ended es)) rowsOn (λ es x. rows-by (on es x) es (eventsIn x)) [] xs
 
     -- and end call by call
     pub joined-ended : joinedEnded l xs ≡ ended events
     unfolding endedOf
-    joined-ended = ap (λ (x : Layer). joinedEnded x xs) at-start ∙ ended-after [] xs (kept-none l (start .no-bars))
+    joined-ended = ap flatten (each-after endedInCall endedOn (λ es x k. rw (verdict-step l (start .no-bars) es x k)) xs) ∙ built more ended endedOn (λ es x. ended-by (on es x) es (eventsIn x)) [] xs
 
     module _ (sheet : List ℕ) (room : rowBytes * length (ended events) ≤ length sheet) where
       -- one feed of them gives them for its history
       one-history : historyAfter t [] (oneFeed (ended events) sheet ∷ []) ≡ ended events
-      unfolding historyAfter fedOf
+      unfolding after fedOf
       one-history =
           whole t sheet (ended events)
           (λ some.
@@ -166,7 +167,7 @@ module _ (l : Layer) (start : NoneYet l) where
           let bars = ended events in
           record {
             -- (a)
-            refusals = ap (λ (x : Layer). verdictsOf x xs) at-start ∙ verdicts-after [] xs (kept-none l (start .no-bars));
+            refusals = each-after (λ x c. called x c .verdict) on (verdict-step l (start .no-bars)) xs;
             -- (b)
             same-ended = joined-ended;
             -- (c)

@@ -12,6 +12,7 @@ use Rattle.recognisers.specs.declared.call.Verdict.{Verdict}
 use Rattle.recognisers.specs.declared.call.Verdict.the-variants.{Accepted}
 use Rattle.recognisers.specs.Number.{rowBytes}
 use Rattle.bar_box.specs.Box.{leaves}
+use Rattle.bar_box.specs.Calls.{after, each, joined}
 use Rattle.bar_box.specs.History.{NoBars, oneFeed, fed, rowsIn, Holds as BoxHolds}
 use Rattle.trading_hours.specs.declared.hours.Hours.{Hours}
 use Rattle.trading_hours.specs.Hours.{mostWindows, windowsOf, validHours, termLength}
@@ -53,13 +54,11 @@ module _ (t : Thresholds) (h : Hours) (m : ℕ) where
   appended es x = leaves (verdictOn es x) es (es ++ eventsIn x)
 
   -- from the empty list it is the one list of all bars and closes of the accepted calls
-  unfoldable pub eventsAfter : List Event → List Call → List Event
-  eventsAfter es [] = es
-  eventsAfter es (x ∷ xs) = eventsAfter (appended es x) xs
+  abbrev pub eventsAfter : List Event → List Call → List Event
+  eventsAfter = after appended
 
-  unfoldable pub verdictsOn : List Event → List Call → List Verdict
-  verdictsOn es [] = []
-  verdictsOn es (x ∷ xs) = verdictOn es x ∷ verdictsOn (appended es x) xs
+  abbrev pub verdictsOn : List Event → List Call → List Verdict
+  verdictsOn = each appended verdictOn
 
 -- ---- the calls, as the contracts of a run and a close have them
 
@@ -71,30 +70,28 @@ abbrev pub sheetAfter : Layer → Call → List ℕ
 sheetAfter l (Run prices stamps sheet) = ranSheet l prices stamps sheet
 sheetAfter l (Shut sheet) = closedSheet l sheet
 
--- the first call is handed the layer, each later one the layer that the call before it left, refused or not
-unfoldable pub layerAfter : Layer → List Call → Layer
-layerAfter l [] = l
-layerAfter l (x ∷ xs) = layerAfter (called l x .after) xs
+abbrev pub layerLeft : Layer → Call → Layer
+layerLeft l x = called l x .after
 
-unfoldable pub verdictsOf : Layer → List Call → List Verdict
-verdictsOf l [] = []
-verdictsOf l (x ∷ xs) = called l x .verdict ∷ verdictsOf (called l x .after) xs
+abbrev pub layerAfter : Layer → List Call → Layer
+layerAfter = after layerLeft
+
+abbrev pub verdictsOf : Layer → List Call → List Verdict
+verdictsOf = each layerLeft (λ l x. called l x .verdict)
 
 -- the term bars that end in an accepted call, by what the layer carries
 abbrev pub endedInCall : Layer → Call → List Bar
 endedInCall l x = leaves (called l x .verdict) [] (endedIn l (eventsIn x))
 
-unfoldable pub joinedEnded : Layer → List Call → List Bar
-joinedEnded l [] = []
-joinedEnded l (x ∷ xs) = endedInCall l x ++ joinedEnded (called l x .after) xs
+abbrev pub joinedEnded : Layer → List Call → List Bar
+joinedEnded = joined layerLeft endedInCall
 
 -- the rows of a call: as many as it says that it filled, as its sheet stands when it returns
 abbrev pub rowsOfCall : Layer → Call → List ℕ
 rowsOfCall l x = take (rowBytes * called l x .rows) (sheetAfter l x)
 
-unfoldable pub joinedRows : Layer → List Call → List ℕ
-joinedRows l [] = []
-joinedRows l (x ∷ xs) = rowsOfCall l x ++ joinedRows (called l x .after) xs
+abbrev pub joinedRows : Layer → List Call → List ℕ
+joinedRows = joined layerLeft rowsOfCall
 
 -- ---- what holds after a list of calls xs to a layer l to which nothing came; es is the one list of events, ended are the term bars that end in
 -- it, and sheet is one that is long enough for their rows
