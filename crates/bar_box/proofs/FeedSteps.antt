@@ -20,7 +20,7 @@ use Rattle.recognisers.specs.Number.{rowBytes, mostBars, places}
 use Rattle.recognisers.specs.Refusal.{Tried, firstTrue}
 use Rattle.bar_box.specs.declared.boxes.BarBox.{BarBox}
 use Rattle.bar_box.specs.Sheet.{rowsOf, overlay}
-use Rattle.bar_box.specs.Box.{kept, takenIn, feedVerdict, leaves, fedOf, sheetOf}
+use Rattle.bar_box.specs.Box.{kept, takenIn, feedTried, feedVerdict, leaves, fedOf, sheetOf}
 use Rattle.bar_box.specs.History.{Feed, verdictOn, appended, fed, rowsIn, NoBars}
 use Rattle.bar_box.proofs.Overlay.{overlay-none}
 use Rattle.bar_box.proofs.SheetLaws.{length-rows, rows-newest}
@@ -46,7 +46,7 @@ none-true x xs = go (x .met) refl
 
 -- an accepted feed meets them
 pub fits : (t : Thresholds) (n prices sheet : ℕ) → feedVerdict t n prices sheet ≡ Accepted → Fits t n prices sheet
-unfolding feedVerdict
+unfolding feedVerdict feedTried
 fits t n prices sheet none =
     let three = none-true _ _ none in
     let four = none-true _ _ (three .1) in
@@ -56,7 +56,7 @@ fits t n prices sheet none =
 
 -- and one that meets them is accepted
 pub accepts : (t : Thresholds) (n prices sheet : ℕ) → Fits t n prices sheet → feedVerdict t n prices sheet ≡ Accepted
-unfolding feedVerdict firstTrue
+unfolding feedVerdict feedTried firstTrue
 accepts t n prices sheet f = simp (f .valid, eq-eqb (prices % 4) 0 (f .whole), le-ltb mostBars (n + prices / 4) (f .few), le-ltb sheet (rowBytes * (prices / 4)) (f .room))
 
 -- ---- a feed takes all lent prices in, or none

@@ -1,5 +1,6 @@
 -- "A feed reaches the box", "A look": the box, its making, a feed and a look, for every box that a caller can hand in.
 use Prim.Native.Nat.{ℕ, _+_, _/_, _%_}
+use mathlib.Core.Bool.{Bool, not}
 use mathlib.Core.List.{List, [], _∷_, _++_, map}
 use lib.Dec.{eqb}
 use lib.ListN.{length, take, drop, replicate}
@@ -16,7 +17,8 @@ use Rattle.recognisers.specs.declared.call.LookAnswer.{LookAnswer}
 use Rattle.recognisers.specs.declared.call.LookAnswer.the-variants as look
 use Rattle.recognisers.specs.Number.{places}
 use Rattle.recognisers.specs.Table.{pairAt}
-use Rattle.recognisers.specs.Refusal.{unknownRecogniser, zeroOffset, badThreshold, brokenBars, tooManyBars, shortSheet, farLook, firstTrue, answerTo}
+use Rattle.recognisers.specs.declared.call.Refusal.the-variants.{BadThreshold, BrokenBars, TooManyBars}
+use Rattle.recognisers.specs.Refusal.{Tried, tried, unknownRecogniser, zeroOffset, badThreshold, brokenBars, tooManyBars, shortSheet, farLook, badLayer, firstTrue, nextAfter, answerTo}
 use Rattle.bar_box.specs.declared.boxes.KeptBar.{KeptBar}
 use Rattle.bar_box.specs.declared.boxes.BarBox.{BarBox}
 use Rattle.bar_box.specs.declared.boxes.Outcome.{Outcome}
@@ -79,9 +81,20 @@ unfoldable pub madeOf : Thresholds → Outcome
 madeOf t = let v = firstTrue (badThreshold t ∷ []) in outcome v (madeBy v t)
 
 -- a feed tries 3 to 6, with the thresholds and the count N of the box, and the numbers of prices and of sheet bytes that it is lent
+unfoldable pub feedTried : Thresholds → ℕ → ℕ → ℕ → List Tried
+feedTried t n prices sheet = badThreshold t ∷ brokenBars (eqb (prices % 4) 0) ∷ tooManyBars (n + prices / 4) ∷ shortSheet sheet (prices / 4) ∷ []
+
 unfoldable pub feedVerdict : Thresholds → ℕ → ℕ → ℕ → Verdict
-feedVerdict t n prices sheet =
-    firstTrue (badThreshold t ∷ brokenBars (eqb (prices % 4) 0) ∷ tooManyBars (n + prices / 4) ∷ shortSheet sheet (prices / 4) ∷ [])
+feedVerdict t n prices sheet = firstTrue (feedTried t n prices sheet)
+
+-- other calls that are "checked as a feed" try more: 12 next after 3, 4 and 5 also for what they say. As the code has it, which knows of these
+-- whether they are right
+unfoldable pub checkedTried : Thresholds → Bool → ℕ → ℕ → Bool → Bool → ℕ → List Tried
+checkedTried t layer n prices whole right sheet =
+    nextAfter BadThreshold (badLayer layer ∷ [])
+    (nextAfter BrokenBars (brokenBars whole ∷ [])
+    (nextAfter TooManyBars (tried (not right) TooManyBars ∷ [])
+    (feedTried t n prices sheet)))
 
 -- what a call that may be refused leaves: a refusal leaves what was there
 abbrev pub leaves : {A : Type 0} → Verdict → A → A → A

@@ -6,8 +6,9 @@ ghost use lib.Dec.{eqb};
 ghost use lib.ListN.{length, take};
 ghost use Rattle.measures.specs.Bar.{barsOf};
 ghost use Rattle.recognisers.specs.Number.{rowBytes};
+ghost use Rattle.recognisers.specs.Refusal.{firstTrue};
 ghost use Rattle.bar_box.specs.Sheet.{rowsOf, before, overlay};
-ghost use Rattle.bar_box.specs.Box.{kept, takenIn, feedVerdict, leaves, fedOf, sheetOf};
+ghost use Rattle.bar_box.specs.Box.{kept, takenIn, feedVerdict, checkedTried, leaves, fedOf, sheetOf};
 use crate::boxes::BarBox;
 use crate::boxes::Outcome;
 use crate::runs;
@@ -21,25 +22,50 @@ use recognisers::counts::MOST_BARS;
 use recognisers::counts::PLACES;
 use recognisers::counts::ROW_BYTES;
 
-// The first of the refusals 3 to 6 that is true of a feed to a box that counts n bars.
-pub fn feed_verdict(t: Thresholds, n: u32, prices: usize, sheet: usize) -> Verdict
-    ensures { λ r. ⌜ r ≡ feedVerdict t n prices sheet ⌝ }
+// The first of the refusals 3 to 6 that is true of a call that is checked as a feed to a box that counts n bars. Three that such a call may
+// try besides the caller has tested: layer says that 12 is not true, whole and right that nothing else is that 4 and 5 also cover.
+pub fn checked(
+    t: Thresholds,
+    layer: bool,
+    n: u32,
+    prices: usize,
+    whole: bool,
+    right: bool,
+    sheet: usize,
+) -> Verdict
+    ensures { λ r. ⌜ r ≡ firstTrue (checkedTried t layer n prices whole right sheet) ⌝ }
 {
     let valid = t.is_valid();
     if !valid {
         return Verdict::Denied(Refusal::BadThreshold);
     }
+    if !layer {
+        return Verdict::Denied(Refusal::BadLayer);
+    }
     if prices % 4 != 0 {
+        return Verdict::Denied(Refusal::BrokenBars);
+    }
+    if !whole {
         return Verdict::Denied(Refusal::BrokenBars);
     }
     let bars = prices / 4;
     if MOST_BARS < n as usize + bars {
         return Verdict::Denied(Refusal::TooManyBars);
     }
+    if !right {
+        return Verdict::Denied(Refusal::TooManyBars);
+    }
     if sheet < ROW_BYTES * bars {
         return Verdict::Denied(Refusal::ShortSheet);
     }
     Verdict::Accepted
+}
+
+// The first of the refusals 3 to 6 that is true of a feed to a box that counts n bars.
+pub fn feed_verdict(t: Thresholds, n: u32, prices: usize, sheet: usize) -> Verdict
+    ensures { λ r. ⌜ r ≡ feedVerdict t n prices sheet ⌝ }
+{
+    checked(t, true, n, prices, true, true, sheet)
 }
 
 // Writes the rows of the lent bars, which follow count others; the newest of these stand at the front of the run, old of them. Those that a

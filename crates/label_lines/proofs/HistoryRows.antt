@@ -15,7 +15,7 @@ use Rattle.recognisers.specs.Refusal.{firstTrue}
 use Rattle.recognisers.specs.Threshold.{standardSet}
 use Rattle.bar_box.specs.declared.boxes.BarBox.{BarBox}
 use Rattle.bar_box.specs.Sheet.{rowOf}
-use Rattle.bar_box.specs.Box.{freshBox, takenIn, feedVerdict, fedOf, sheetOf}
+use Rattle.bar_box.specs.Box.{freshBox, takenIn, feedTried, feedVerdict, fedOf, sheetOf}
 use Rattle.bar_box.specs.History.{Feed, verdictOn, pricesOf, NoBars}
 use Rattle.bar_box.proofs.SheetLaws.{length-row, rows-one, rows-newest}
 use Rattle.bar_box.proofs.FeedSteps.{accepts, count-after, kept-after, verdict-step, box-step}
@@ -77,7 +77,7 @@ module _ (h : List Bar) (bar : Bar) where
 
   -- past them it is refused
   fed-past : length h ≡ mostBars → fedStep (boxOf h) bar ≡ record { printed = refusalLine (length h + 1) refusal.TooManyBars; after = boxOf h; stops = true }
-  unfolding feedVerdict firstTrue pricesOf
+  unfolding feedVerdict feedTried firstTrue pricesOf
   fed-past most =
       let past : verdictOn standardSet h feed ≡ Denied refusal.TooManyBars = simp (standard-valid, lt-ltb mostBars (length h + 1) (omega arith)) in
       fed-refused (boxOf h) bar _ refl refusal.TooManyBars (verdict-step fresh start h feed ∙ past) ∙ rw (count-after fresh start h)

@@ -1,7 +1,7 @@
 -- "Why a call is refused": the refusals' numbers, when each is true, and the plain call, which tries 1 to 5.
 use Prim.Native.Nat.{ℕ, _*_, _%_}
 use mathlib.Core.Bool.{Bool, cond, not, _&&_, _||_}
-use mathlib.Core.List.{List, [], _∷_}
+use mathlib.Core.List.{List, [], _∷_, _++_}
 use lib.Dec.{ltb, leb, eqb}
 use lib.ListN.{length}
 use lib.Ieee.{Float}
@@ -99,6 +99,11 @@ badLayer valid = tried (not valid) BadLayer
 unfoldable pub firstTrue : List Tried → Verdict
 firstTrue [] = Accepted
 firstTrue (x ∷ xs) = cond (x .met) (Denied (x .why)) (firstTrue xs)
+
+-- tests with others next after those of a refusal: "next after 3", or "5 also covers" for others of the same
+unfoldable pub nextAfter : Refusal → List Tried → List Tried → List Tried
+nextAfter r more [] = more
+nextAfter r more (x ∷ xs) = x ∷ cond (eqb (refusalNumber r) (refusalNumber (x .why))) (more ++ xs) (nextAfter r more xs)
 
 -- ---- the plain call
 

@@ -1,26 +1,23 @@
 -- A feed with a tally beside one without: its verdict, and what an accepted one leaves. Assumes nothing.
-use Prim.Native.Nat.{ℕ, _+_, _*_, _/_, _%_, _≤_}
-use mathlib.Core.Bool.{Bool, true, false, cond, not}
+use Prim.Native.Nat.{ℕ, _+_, _*_}
+use mathlib.Core.Bool.{true}
 use mathlib.Core.List.{List}
-use mathlib.Core.Path.{_≡_, refl, sym, _∙_}
-use native.Mathlib.Omega.{arith}
-use borrow.Author.Tests.{ltb-false, le-ltb, eq-eqb}
-use lib.Dec.{ltb, eqb}
+use mathlib.Core.Path.{_≡_, sym, _∙_}
+use borrow.Author.Tests.{not-false}
 use lib.ListN.{length, take, drop}
 use lib.Seq.{take-at}
 use Rattle.measures.specs.Bar.{barsOf}
-use Rattle.recognisers.specs.Number.{rowBytes, mostBars}
-use Rattle.recognisers.specs.Threshold.{Thresholds, validOf}
-use Rattle.recognisers.specs.Refusal.{firstTrue}
+use Rattle.recognisers.specs.Number.{rowBytes}
+use Rattle.recognisers.specs.Threshold.{Thresholds}
+use Rattle.recognisers.specs.Refusal.{firstTrue, nextAfter}
 use Rattle.recognisers.specs.declared.call.Refusal.{Refusal}
-use Rattle.recognisers.specs.declared.call.Refusal.the-variants.{BadThreshold, BrokenBars, TooManyBars, ShortSheet}
 use Rattle.recognisers.specs.declared.call.Verdict.the-variants.{Accepted, Denied}
 use Rattle.bar_box.specs.declared.boxes.BarBox.{BarBox}
 use Rattle.bar_box.specs.Sheet.{rowsOf}
-use Rattle.bar_box.specs.Box.{kept, takenIn, feedVerdict, fedOf, sheetOf}
+use Rattle.bar_box.specs.Box.{kept, takenIn, feedTried, feedVerdict, fedOf, sheetOf}
 use Rattle.bar_box.specs.History.{Feed, fed}
 use Rattle.bar_box.proofs.SheetLaws.{length-rows}
-use Rattle.bar_box.proofs.FeedSteps.{fits}
+use Rattle.bar_box.proofs.FeedSteps.{none-true}
 use Rattle.tallies.specs.declared.table.TallyRow.{TallyRow}
 use Rattle.tallies.specs.declared.feeds.Tallied.{Tallied}
 use Rattle.tallies.specs.Tally.{addsUp, counted}
@@ -28,50 +25,20 @@ use Rattle.tallies.specs.Feed.{tallyVerdict, verdictWith, talliedOf}
 
 -- ---- the verdict
 
--- an accepted feed is no refused one
-accepted-denied : {P : Type 0} (r : Refusal) → Accepted ≡ Denied r → P
-accepted-denied r e = absurd (let z : _≡_ {A = ℕ} 0 1 = cc in omega arith)
-
 module _ (t : Thresholds) (n : ℕ) (tally : List TallyRow) (prices : ℕ) where
   -- where the tally adds up, the verdict is that of a feed without one
   pub plain-verdict : (sheet : ℕ) → addsUp n tally ≡ true → tallyVerdict t n tally prices sheet ≡ feedVerdict t n prices sheet
-  unfolding tallyVerdict feedVerdict firstTrue
+  unfolding tallyVerdict feedVerdict feedTried nextAfter firstTrue
   plain-verdict sheet adds = rw adds
 
   -- where it is accepted, the tally adds up
   pub accepted-adds : (sheet : ℕ) → tallyVerdict t n tally prices sheet ≡ Accepted → addsUp n tally ≡ true
-  unfolding tallyVerdict firstTrue
-  accepted-adds sheet e = go (not (validOf t)) (not (eqb (prices % 4) 0)) (ltb mostBars (n + prices / 4)) (addsUp n tally) refl e
-    where
-      go : (a b c d : Bool) → addsUp n tally ≡ d
-          → cond a (Denied BadThreshold) (cond b (Denied BrokenBars) (cond c (Denied TooManyBars) (cond (not d) (Denied TooManyBars) (cond (ltb sheet (rowBytes * (prices / 4))) (Denied ShortSheet) Accepted)))) ≡ Accepted
-          → addsUp n tally ≡ true
-      go true b c d is e = accepted-denied BadThreshold (sym e)
-      go false true c d is e = accepted-denied BrokenBars (sym e)
-      go false false true d is e = accepted-denied TooManyBars (sym e)
-      go false false false true is e = is
-      go false false false false is e = accepted-denied TooManyBars (sym e)
-
-  -- ---- the tests as the code has them: those before the tally's on a sheet that is long enough for any feed
-  module _ (long : ℕ) (enough : rowBytes * mostBars ≤ long) (sheet : ℕ) where
-    pub denied-early : (r : Refusal) → feedVerdict t n prices long ≡ Denied r → tallyVerdict t n tally prices sheet ≡ Denied r
-    unfolding tallyVerdict feedVerdict firstTrue
-    denied-early r e = go (not (validOf t)) (not (eqb (prices % 4) 0)) (ltb mostBars (n + prices / 4)) refl e
-      where
-        go : (a b c : Bool) → ltb mostBars (n + prices / 4) ≡ c
-            → cond a (Denied BadThreshold) (cond b (Denied BrokenBars) (cond c (Denied TooManyBars) (cond (ltb long (rowBytes * (prices / 4))) (Denied ShortSheet) Accepted))) ≡ Denied r
-            → cond a (Denied BadThreshold) (cond b (Denied BrokenBars) (cond c (Denied TooManyBars) (cond (not (addsUp n tally)) (Denied TooManyBars) (cond (ltb sheet (rowBytes * (prices / 4))) (Denied ShortSheet) Accepted)))) ≡ Denied r
-        go true b c is e = e
-        go false true c is e = e
-        go false false true is e = e
-        go false false false is e =
-            let few = ltb-false mostBars (n + prices / 4) is in
-            accepted-denied r (rw (le-ltb long (rowBytes * (prices / 4)) (omega arith)) at e)
-
-    pub accepted-early : feedVerdict t n prices long ≡ Accepted
-        → tallyVerdict t n tally prices sheet ≡ cond (not (addsUp n tally)) (Denied TooManyBars) (cond (ltb sheet (rowBytes * (prices / 4))) (Denied ShortSheet) Accepted)
-    unfolding tallyVerdict feedVerdict firstTrue
-    accepted-early e = let f = fits t n prices long e in simp (f .valid, le-ltb mostBars (n + prices / 4) (f .few), eq-eqb (prices % 4) 0 (f .whole))
+  unfolding tallyVerdict feedTried nextAfter
+  accepted-adds sheet e =
+      let three = none-true _ _ e in
+      let four = none-true _ _ (three .1) in
+      let five = none-true _ _ (four .1) in
+      not-false _ (none-true _ _ (five .1) .0)
 
 -- ---- what a feed leaves
 

@@ -1,16 +1,15 @@
 -- A feed with a tally, for every box and tally that a caller can hand in.
-use Prim.Native.Nat.{ℕ, _+_, _/_, _%_}
+use Prim.Native.Nat.{ℕ}
 use mathlib.Core.Bool.{not}
 use mathlib.Core.List.{List, [], _∷_}
-use lib.Dec.{eqb}
 use lib.ListN.{length}
 use lib.Ieee.{Float}
 use Rattle.recognisers.specs.Threshold.{Thresholds}
 use Rattle.recognisers.specs.declared.call.Refusal.the-variants.{TooManyBars}
 use Rattle.recognisers.specs.declared.call.Verdict.{Verdict}
-use Rattle.recognisers.specs.Refusal.{Tried, tried, badThreshold, brokenBars, tooManyBars, shortSheet, firstTrue}
+use Rattle.recognisers.specs.Refusal.{Tried, tried, firstTrue, nextAfter}
 use Rattle.bar_box.specs.declared.boxes.BarBox.{BarBox}
-use Rattle.bar_box.specs.Box.{leaves, sheetOf}
+use Rattle.bar_box.specs.Box.{feedTried, leaves, sheetOf}
 use Rattle.bar_box.specs.History.{Feed, fed, rowsIn}
 use Rattle.tallies.specs.declared.table.TallyRow.{TallyRow}
 use Rattle.tallies.specs.declared.feeds.Tallied.{Tallied}
@@ -24,10 +23,9 @@ lent prices sheet = record { prices = prices; sheet = sheet }
 abbrev pub wrongTally : ℕ → List TallyRow → Tried
 wrongTally n tally = tried (not (addsUp n tally)) TooManyBars
 
--- it tries 3 to 6, as a feed does, with the tally's test beside the other of 5
+-- otherwise it tries what a feed does
 unfoldable pub tallyVerdict : Thresholds → ℕ → List TallyRow → ℕ → ℕ → Verdict
-tallyVerdict t n tally prices sheet =
-    firstTrue (badThreshold t ∷ brokenBars (eqb (prices % 4) 0) ∷ tooManyBars (n + prices / 4) ∷ wrongTally n tally ∷ shortSheet sheet (prices / 4) ∷ [])
+tallyVerdict t n tally prices sheet = firstTrue (nextAfter TooManyBars (wrongTally n tally ∷ []) (feedTried t n prices sheet))
 
 abbrev pub verdictWith : BarBox → List TallyRow → Feed → Verdict
 verdictWith b tally f = tallyVerdict (b .thresholds) (b .count) tally (length (f .prices)) (length (f .sheet))

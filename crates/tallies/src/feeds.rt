@@ -6,9 +6,8 @@ use crate::counts;
 use crate::table;
 use crate::table::TallyRow;
 use bar_box::BarBox;
-use bar_box::feeds::feed_verdict;
+use bar_box::feeds::checked;
 use recognisers::Thresholds;
-use recognisers::call::Refusal;
 use recognisers::call::Verdict;
 use recognisers::counts::RECOGNISERS;
 use recognisers::counts::ROW_BYTES;
@@ -32,19 +31,7 @@ pub fn tally_verdict(
     ensures { λ r. ⌜ (r ≡ tallyVerdict t n tally prices sheet) × (Shaped tally) ⌝ }
 {
     let right = table::adds_up(tally, n);
-    // a sheet that is long enough for any feed: the test of the sheet comes behind the tally's
-    match feed_verdict(t, n, prices, usize::MAX) {
-        Verdict::Denied(why) => Verdict::Denied(why),
-        Verdict::Accepted => {
-            if !right {
-                Verdict::Denied(Refusal::TooManyBars)
-            } else if sheet < ROW_BYTES * (prices / 4) {
-                Verdict::Denied(Refusal::ShortSheet)
-            } else {
-                Verdict::Accepted
-            }
-        }
-    }
+    checked(t, true, n, prices, true, right, sheet)
 }
 
 // Takes the lent bars in, writes a row for each and counts it, or refuses and leaves box, tally and sheet as they were.

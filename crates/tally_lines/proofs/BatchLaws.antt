@@ -13,10 +13,10 @@ use Rattle.recognisers.specs.declared.call.Refusal.{Refusal}
 use Rattle.recognisers.specs.declared.call.Verdict.{Verdict}
 use Rattle.recognisers.specs.declared.call.Verdict.the-variants.{Accepted, Denied}
 use Rattle.recognisers.specs.Number.{rowBytes, mostBars, places}
-use Rattle.recognisers.specs.Refusal.{badThreshold, tooManyBars, firstTrue}
+use Rattle.recognisers.specs.Refusal.{badThreshold, tooManyBars, firstTrue, nextAfter}
 use Rattle.recognisers.specs.Threshold.{validOf}
 use Rattle.bar_box.specs.declared.boxes.BarBox.{BarBox}
-use Rattle.bar_box.specs.Box.{numbered, held, takenIn}
+use Rattle.bar_box.specs.Box.{numbered, held, feedTried, takenIn}
 use Rattle.bar_box.specs.History.{pricesOf}
 use Rattle.bar_box.proofs.BoxLaws.{length-laid, taken-append}
 use Rattle.bar_box.proofs.FeedSteps.{fits}
@@ -35,7 +35,7 @@ verdictFor b tally n = firstTrue (badThreshold (b .thresholds) ∷ tooManyBars (
 
 module _ (b : BarBox) (tally : List TallyRow) where
   verdict-bars : (n prices sheet : ℕ) → prices ≡ 4 * n → rowBytes * n ≤ sheet → tallyVerdict (b .thresholds) (b .count) tally prices sheet ≡ verdictFor b tally n
-  unfolding tallyVerdict firstTrue
+  unfolding tallyVerdict feedTried nextAfter firstTrue
   verdict-bars n prices sheet is room =
       let whole : prices % 4 ≡ 0 = omega arith in
       let bars : prices / 4 ≡ n = omega arith in

@@ -12,7 +12,7 @@ use Rattle.recognisers.specs.Number.{rowBytes, mostBars}
 use Rattle.recognisers.specs.Refusal.{firstTrue}
 use Rattle.recognisers.specs.Threshold.{standardSet}
 use Rattle.bar_box.specs.declared.boxes.BarBox.{BarBox}
-use Rattle.bar_box.specs.Box.{freshBox, takenIn, feedVerdict}
+use Rattle.bar_box.specs.Box.{freshBox, takenIn, feedTried, feedVerdict}
 use Rattle.bar_box.specs.History.{verdictOn, pricesOf, NoBars}
 use Rattle.bar_box.proofs.FeedSteps.{accepts, count-after, verdict-step}
 use Rattle.bar_box.proofs.FeedLists.{at-start}
@@ -61,7 +61,7 @@ module _ (h : List Bar) (bar : Bar) where
   -- past them it is refused
   pub fed-past : length h ≡ mostBars
       → talliedOf (boxOf h) (historyTally h) (barFeed bar) ≡ record { verdict = Denied refusal.TooManyBars; after = boxOf h; tally = historyTally h }
-  unfolding feedVerdict firstTrue pricesOf
+  unfolding feedVerdict feedTried firstTrue pricesOf
   fed-past most =
       let past : verdictOn standardSet h (barFeed bar) ≡ Denied refusal.TooManyBars = simp (standard-valid, lt-ltb mostBars (length h + 1) (omega arith)) in
       rw (tally-is h) (tallied-step fresh start h (barFeed bar) ∙ rw (verdict-step fresh start h (barFeed bar), past))

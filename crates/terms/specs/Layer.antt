@@ -1,17 +1,18 @@
 -- 02, P6: the layer, its making, a run and a close, for every layer that a caller can hand in.
-use Prim.Native.Nat.{ℕ, _+_, _/_, _%_}
+use Prim.Native.Nat.{ℕ, _/_}
 use mathlib.Core.Bool.{Bool, true, false, _&&_}
-use mathlib.Core.List.{List, [], _∷_}
+use mathlib.Core.List.{List, [], _∷_, _++_}
 use lib.Dec.{ltb, eqb}
 use lib.ListN.{length}
 use lib.Ieee.{Float}
 use Rattle.measures.specs.Bar.{Bar, barsOf}
 use Rattle.recognisers.specs.Threshold.{Thresholds, standardSet}
+use Rattle.recognisers.specs.declared.call.Refusal.the-variants.{BadThreshold, BrokenBars}
 use Rattle.recognisers.specs.declared.call.Verdict.{Verdict}
 use Rattle.recognisers.specs.declared.call.Verdict.the-variants.{Accepted, Denied}
-use Rattle.recognisers.specs.Refusal.{Tried, badThreshold, brokenBars, tooManyBars, shortSheet, lateStamp, outsideHours, badLayer, firstTrue}
+use Rattle.recognisers.specs.Refusal.{Tried, badThreshold, brokenBars, lateStamp, outsideHours, badLayer, firstTrue, nextAfter}
 use Rattle.bar_box.specs.declared.boxes.BarBox.{BarBox}
-use Rattle.bar_box.specs.Box.{freshBox, leaves, fedOf, sheetOf}
+use Rattle.bar_box.specs.Box.{freshBox, feedTried, leaves, fedOf, sheetOf}
 use Rattle.bar_box.specs.History.{pricesOf}
 use Rattle.trading_hours.specs.declared.hours.Hours.{Hours}
 use Rattle.trading_hours.specs.Hours.{dayMinutes, windowFrom, noWindow, hoursWith, withZeros, validHours, inHours, termLength}
@@ -66,21 +67,16 @@ stampsTried h last (s ∷ ss) = lateStamp (above last s) ∷ outsideHours (inHou
 unfoldable pub makeVerdict : Thresholds → Hours → ℕ → Verdict
 makeVerdict t h m = firstTrue (badThreshold t ∷ badLayer (validLayer h m nothingYet) ∷ [])
 
--- "A run is checked as a feed of that many bars .., with 4 also for another number of stamps than bars": 3, 12, 4, 5, 6, and 10 and 11 bar by bar.
+-- "A run is checked as a feed of that many bars .., with 4 also for another number of stamps than bars", 12 "next after 3", and 10 and 11 "after 6".
 -- valid says that the layer keeps the rules, last is the last stamp, n the box's count, prices and sheet how many there are
 unfoldable pub runTried : Thresholds → Bool → Hours → LastStamp → ℕ → ℕ → List ℕ → ℕ → Verdict
 runTried t valid h last n prices stamps sheet =
-    firstTrue
-    (badThreshold t
-    ∷ badLayer valid
-    ∷ brokenBars (eqb (prices % 4) 0 && eqb (length stamps) (prices / 4))
-    ∷ tooManyBars (n + prices / 4)
-    ∷ shortSheet sheet (prices / 4)
-    ∷ stampsTried h last stamps)
+    let another = brokenBars (eqb (length stamps) (prices / 4)) in
+    firstTrue (nextAfter BadThreshold (badLayer valid ∷ []) (nextAfter BrokenBars (another ∷ []) (feedTried t n prices sheet)) ++ stampsTried h last stamps)
 
--- ".. and a close as a feed of one": 3, 12, 5 and 6, open bar or not
+-- ".. and a close as a feed of one", open bar or not
 unfoldable pub closeTried : Thresholds → Bool → ℕ → ℕ → Verdict
-closeTried t valid n sheet = firstTrue (badThreshold t ∷ badLayer valid ∷ tooManyBars (n + 1) ∷ shortSheet sheet 1 ∷ [])
+closeTried t valid n sheet = firstTrue (nextAfter BadThreshold (badLayer valid ∷ []) (feedTried t n 4 sheet))
 
 -- as a layer that is handed in has it
 abbrev pub runVerdict : Thresholds → Hours → ℕ → Carried → ℕ → ℕ → List ℕ → ℕ → Verdict

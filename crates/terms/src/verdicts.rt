@@ -7,11 +7,10 @@ use crate::events;
 use crate::events::Carried;
 use crate::events::LastStamp;
 use crate::events::OpenBar;
+use bar_box::feeds::checked;
 use recognisers::Thresholds;
 use recognisers::call::Refusal;
 use recognisers::call::Verdict;
-use recognisers::counts::MOST_BARS;
-use recognisers::counts::ROW_BYTES;
 use trading_hours::Hours;
 use trading_hours::hours;
 
@@ -102,48 +101,21 @@ pub fn run_verdict(
 ) -> Verdict
     ensures { λ r. ⌜ r ≡ runVerdict t h m c n prices (now (stamps .entry)) sheet ⌝ }
 {
-    let valid = t.is_valid();
-    if !valid {
-        return Verdict::Denied(Refusal::BadThreshold);
+    let layer = layer_valid(h, m, c);
+    let one_each = stamps.len() == prices / 4;
+    match checked(t, layer, n, prices, one_each, true, sheet) {
+        Verdict::Denied(why) => Verdict::Denied(why),
+        Verdict::Accepted => {
+            let last = c.last;
+            stamps_verdict(h, m, last, stamps)
+        }
     }
-    let whole = layer_valid(h, m, c);
-    if !whole {
-        return Verdict::Denied(Refusal::BadLayer);
-    }
-    let bars = prices / 4;
-    if prices % 4 != 0 {
-        return Verdict::Denied(Refusal::BrokenBars);
-    }
-    if stamps.len() != bars {
-        return Verdict::Denied(Refusal::BrokenBars);
-    }
-    if MOST_BARS < n as usize + bars {
-        return Verdict::Denied(Refusal::TooManyBars);
-    }
-    if sheet < ROW_BYTES * bars {
-        return Verdict::Denied(Refusal::ShortSheet);
-    }
-    let last = c.last;
-    stamps_verdict(h, m, last, stamps)
 }
 
 // The first of the refusals 3, 12, 5 and 6 that is true of a close.
 pub fn close_verdict(t: Thresholds, h: Hours, m: u32, c: Carried, n: u32, sheet: usize) -> Verdict
     ensures { λ r. ⌜ r ≡ closeVerdict t h m c n sheet ⌝ }
 {
-    let valid = t.is_valid();
-    if !valid {
-        return Verdict::Denied(Refusal::BadThreshold);
-    }
-    let whole = layer_valid(h, m, c);
-    if !whole {
-        return Verdict::Denied(Refusal::BadLayer);
-    }
-    if MOST_BARS < n as usize + 1 {
-        return Verdict::Denied(Refusal::TooManyBars);
-    }
-    if sheet < ROW_BYTES {
-        return Verdict::Denied(Refusal::ShortSheet);
-    }
-    Verdict::Accepted
+    let layer = layer_valid(h, m, c);
+    checked(t, layer, n, 4, true, true, sheet)
 }
