@@ -11,7 +11,7 @@ use Rattle.bar_box.specs.Sheet.{overlay}
 use Rattle.bar_box.specs.Box.{numbered, barsIn}
 use Rattle.bar_box.specs.History.{pricesOf}
 use Rattle.bar_box.proofs.Overlay.{overlay-none, overlay-copy}
-use Rattle.bar_box.proofs.PriceLaws.{overlay-bar}
+use Rattle.bar_box.proofs.PriceLaws.{put-next}
 use Rattle.bar_box.specs.declared.boxes.BarBox.{BarBox}
 use Rattle.bar_box.proofs.OrdinalLaws.{noKept, bar-at, length-numbered, numbered-from}
 use Rattle.bar_box.proofs.SeamLaws.{run-rows}
@@ -123,7 +123,7 @@ loop-again c =
     let old = two .least2 .ensures in (
       search needs,
       put .put-bar .kept .1 .0 ∙ inv .1,
-      put .put-bar .ensures ∙ rw (inv .2, ← bar-at bars from i) (overlay-bar _ (drop from (barsIn bars)) i (rw (length-drop, length-map) (omega arith)) (omega arith)),
+      put .put-bar .ensures ∙ rw (inv .2, ← bar-at bars from i) (put-next _ (drop from (barsIn bars)) i (rw (length-drop, length-map) (omega arith)) (omega arith)),
     )
 
 slice-aggregate-label :
