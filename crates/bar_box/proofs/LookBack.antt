@@ -59,6 +59,11 @@ look-beyond b start h k di beyond =
     let none : upTo (takenIn b h .count) di ≡ 0 = rw (count-after b start h) (upTo-out (length h) di (inr beyond)) in
     rw none (no-ordinal (lookOf (takenIn b h) k di))
 
+pub look-none : (b : BarBox) → NoBars b → (h : List Bar) (k di : ℕ) → validOf (b .thresholds) ≡ true → length h ≤ mostBars → k < recognisers → 1 ≤ di → di ≤ farthestLook
+    → length h < di → lookAnswerOf (takenIn b h) k di ≡ Judged (pairAt k (b .thresholds) (length h) h di) 0
+unfolding lookAnswerOf
+look-none b start h k di valid few known one near beyond = rw (look-back b start h k di valid few known one near, count-after b start h, upTo-out (length h) di (inr beyond))
+
 -- the p bars up to the judged one are a history in which it is the newest
 module _ (h : List Bar) (di p : ℕ) (here : upTo (length h) di ≡ p) where
   -- they have the same windows
@@ -68,5 +73,4 @@ module _ (h : List Bar) (di p : ℕ) (here : upTo (length h) di ≡ p) where
 
   -- and the same pair, for a recogniser that does not read len
   pub pair-up-to : (k : ℕ) (t : Thresholds) → (k ≡ gated → ⊥) → pairAt k t (length h) h di ≡ pairAt k t p (take p h) 1
-  unfolding pairAt
-  pair-up-to k t other = rw (window-up-to reachBars, here, upTo-one) (judge-gateless k t _ _ _ _ _ _ other)
+  pair-up-to k t other = rw (reach.pair-near k t (length h) h di, reach.pair-near k t p (take p h) 1, window-up-to reachBars, here, upTo-one) (judge-gateless k t _ _ _ _ _ _ other)

@@ -13,6 +13,7 @@ use Rattle.measures.specs.Bar.{Bar, barOf, noBar, barsOf}
 use Rattle.measures.specs.Window.{upTo, windowOf}
 use Rattle.measures.proofs.RunLaws.{from-bar}
 use Rattle.measures.proofs.WindowLaws.{window-part}
+use Rattle.recognisers.proofs.Reach.{pair-near}
 use Rattle.recognisers.specs.Threshold.{Thresholds}
 use Rattle.recognisers.specs.Label.{Pair}
 use Rattle.recognisers.specs.declared.call.Answer.the-variants.{Labels}
@@ -91,7 +92,7 @@ window-gathered r w s bars di n none at got =
 -- the answer out of the windows of a history is the plain call's; a recogniser without a gate has an empty one
 pub answer-held : (k di : ℕ) (t : Thresholds) (bars : List Bar) (w gate : Window) (n : ℕ) → let len = length bars in n ≡ cond (eqb k gated) quarterBars 0 → barsIn w ≡ windowOf bars di reachBars
     → barsIn gate ≡ windowOf bars gateEnd n → answerTo (plainVerdict k di t true len) (Labels (judgeOf k t len (upTo len di) (barsIn w) (barsIn gate))) ≡ plainAnswer k di t true bars
-unfolding plainAnswer pairAt
+unfolding plainAnswer
 answer-held k di t bars w gate n c e f =
     let len = length bars in
-    rw (e, f, c) (ap (λ (pair : Pair). answerTo (plainVerdict k di t true len) (Labels pair)) (gate-enough k t len (upTo len di) (windowOf bars di reachBars) bars))
+    rw (pair-near k t len bars di, e, f, c) (ap (λ (pair : Pair). answerTo (plainVerdict k di t true len) (Labels pair)) (gate-enough k t len (upTo len di) (windowOf bars di reachBars) bars))

@@ -3,7 +3,7 @@ use Prim.Native.Nat.{ℕ, zero, suc, _+_}
 use mathlib.Core.Bool.{Bool, cond, _&&_}
 use mathlib.Core.List.{List, [], _∷_, map}
 use lib.Dec.{ltb, leb, eqb}
-use lib.ListN.{getD}
+use lib.ListN.{length, getD, take}
 use Rattle.measures.specs.Bar.{Bar}
 use Rattle.measures.specs.declared.folds.Column.the-variants.{Close}
 use Rattle.measures.specs.declared.folds.Extremes.{Extremes}
@@ -98,10 +98,13 @@ ruleOf k t len deep w gate = cond (eqb k gated && gateShut len gate (seenOf w .b
 unfoldable pub judgeOf : ℕ → Thresholds → ℕ → ℕ → List Bar → List Bar → Pair
 judgeOf k t len p w gate = cond (ltb p (rowOf k .from)) (rowOf k .short) (ruleOf k t len (leb reachBars p) w gate)
 
--- the pair at offset di of a history of len bars, of which at least the newest are given: p counts the bars up to the judged one, the
--- window has the last 22 of them, which are all that the rules see (proofs/Reach.antt), and the gate's 20 bars end third from the newest
+-- all bars of a history up to the judged one
+abbrev pub allUpTo : List Bar → ℕ → List Bar
+allUpTo history di = take (upTo (length history) di) history
+
+-- the pair at offset di of a history of len bars, of which at least the newest are given: the rules over all bars up to the judged one
 unfoldable pub pairAt : ℕ → Thresholds → ℕ → List Bar → ℕ → Pair
-pairAt k t len history di = judgeOf k t len (upTo len di) (windowOf history di reachBars) (windowOf history gateEnd quarterBars)
+pairAt k t len history di = judgeOf k t len (upTo len di) (allUpTo history di) (windowOf history gateEnd quarterBars)
 
 -- ---- all eighteen at once
 

@@ -5,7 +5,7 @@ use lib.ListN.{length-take}
 use Rattle.measures.specs.Bar.{barsOf}
 use Rattle.measures.specs.Window.{windowOf}
 use Rattle.rule_types.specs.Number.{reachBars}
-use Rattle.rule_table.specs.Table.{pairAt}
+use Rattle.rule_table.proofs.Reach.{pair-near}
 use Rattle.recognisers.specs.Export.{pricesOf}
 use Rattle.recognisers.proofs.ByteLaws.{length-history}
 use Rattle.rule_table.proofs.TableLaws.{gate-enough}
@@ -41,14 +41,13 @@ slice-aggregate-judge-2 c =
     simp length-take (omega (arith, call .decode2 .kept .1 .1 .1 .0))
 
 returns : tie.Need-returns
-unfolding pairAt
 returns c =
     let gate = c .before .before .before .before in
     let bars = gate .before .before in
     let window = bars .before .before in
     let args = window .before .before .before .before .args in
     let history = barsOf (pricesOf (args .s .now)) in
-    simp (c .judge .ensures, gate .decode2 .ensures .1, bars .gate-bars .ensures .0, window .decode .ensures .1, window .before .before .up-to .ensures, length-history (args .s .now)) (gate-enough (args .k) (args .t) _ _ (windowOf history (args .di) reachBars) history)
+    simp (pair-near, c .judge .ensures, gate .decode2 .ensures .1, bars .gate-bars .ensures .0, window .decode .ensures .1, window .before .before .up-to .ensures, length-history (args .s .now)) (gate-enough (args .k) (args .t) _ _ (windowOf history (args .di) reachBars) history)
 
 pub pair-at-spec : {M : Type 1} → statement M
 pair-at-spec =

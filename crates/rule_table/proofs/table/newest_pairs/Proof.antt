@@ -1,13 +1,15 @@
 -- The code is the definition.
-use Rattle.rule_table.specs.Table.{pairsAt, pairsOf, pairAt}
+use Rattle.rule_table.specs.Table.{pairsAt, pairsOf}
+use Rattle.rule_table.proofs.Reach.{pair-near}
 use borrow.Author.Needs.{needs}
 use Rattle.rule_table.proofs.table.newest_pairs.Statement.{statement}
 use Rattle.rule_table.proofs.table.newest_pairs.Tie as tie
 
 returns : tie.Need-returns
-unfolding pairsAt pairsOf pairAt
+unfolding pairsAt pairsOf
 returns c =
     simp (
+      pair-near,
       c .pairs .ensures,
       c .before .last-bars2 .ensures .1,
       c .before .before .last-bars .ensures .1,
