@@ -1,6 +1,9 @@
 -- The middle as the window grows: the bars between the ends of each size, and their extremes when an older bar enters. Assumes nothing.
 use Prim.Native.Nat.{ℕ, _+_, _-_, _<_, _≤_, min}
-use mathlib.Core.Path.{_≡_, sym, _∙_}
+use mathlib.Core.Path.{_≡_, refl, sym, _∙_}
+use mathlib.Core.Bool.{Bool, true, false, cond}
+use borrow.Author.Tests.{ltb-true, ltb-false}
+use lib.Dec.{ltb}
 use mathlib.Core.List.{List, [], _∷_}
 use native.Mathlib.Omega.{arith}
 use native.Mathlib.Decide.{decLe}
@@ -13,7 +16,7 @@ use Rattle.measures.specs.Fold.{columnOf, everyOf, extremesOf}
 use Rattle.measures.proofs.FoldLaws.{highest-grows, lowest-grows}
 use Rattle.measures.proofs.WindowLaws.{upTo-in, upTo-one, length-window, newest-more, newest-none, back-newest, window-reach, all-of-it}
 use Rattle.growing_rules.specs.GrowingRule.{firstOf, lastOf, innerOf}
-use Rattle.growing_rules.specs.Middle.{middleOf, entered, middleAt}
+use Rattle.growing_rules.specs.Middle.{middleOf, entered, grownBy, middleAt}
 
 -- ---- the bars of the window of n bars
 
@@ -115,3 +118,12 @@ at-next w n some enough = rw (inner-grows w n some enough) (middle-grows (backOf
 pub at-end : (w : List Bar) (n : ℕ) → length w ≤ n → middleAt w (n + 1) ≡ middleAt w n
 unfolding middleAt
 at-end w n all = rw (window-stays w n all)
+
+-- so what runs along is the middle's at each size
+pub at-grown : (w : List Bar) (n : ℕ) → 2 ≤ n → grownBy w n (middleAt w n) ≡ middleAt w (n + 1)
+unfolding grownBy
+at-grown w n some = go (ltb n (length w)) refl
+  where
+    go : (t : Bool) → ltb n (length w) ≡ t → cond t (entered (backOf w n) (middleAt w n)) (middleAt w n) ≡ middleAt w (n + 1)
+    go true e = sym (at-next w n some (ltb-true n (length w) e))
+    go false e = sym (at-end w n (ltb-false n (length w) e))

@@ -1,13 +1,15 @@
 -- 02, P2: the extremes of a window's middle, the bars between its first and its last, which run along as the window grows; and what the code
 -- asks of them. No public promise cites this file: those of 4 and 17 are in GrowingRule.
 use Prim.Native.Nat.{ℕ, _-_, min}
-use mathlib.Core.Bool.{Bool, not, _&&_, _||_}
+use mathlib.Core.Bool.{Bool, cond, not, _&&_, _||_}
+use lib.Dec.{ltb}
+use lib.ListN.{length}
 use mathlib.Core.List.{List}
 use lib.Ieee.{lt, isNan}
 use Rattle.measures.specs.Bar.{Bar}
 use Rattle.measures.specs.declared.folds.Column.the-variants.{High, Low}
 use Rattle.measures.specs.Price.{maxOf, minOf}
-use Rattle.measures.specs.Window.{windowOf}
+use Rattle.measures.specs.Window.{windowOf, backOf}
 use Rattle.measures.specs.Fold.{columnOf, everyOf, extremesOf}
 use Rattle.rule_types.specs.declared.label.Pair.{Pair}
 use Rattle.rule_types.specs.Label.{pairA}
@@ -37,6 +39,10 @@ entered b m = record {
   highs = not (isNan (b .high)) && m .highs;
   lows = not (isNan (b .low)) && m .lows;
 }
+
+-- the window of n bars grows by one: its first bar enters what ran along, whatever that is; where there is no older bar, nothing does
+unfoldable pub grownBy : List Bar → ℕ → Middle → Middle
+grownBy w n m = cond (ltb n (length w)) (entered (backOf w n) m) m
 
 -- at the size of n bars
 unfoldable pub middleAt : List Bar → ℕ → Middle

@@ -1,9 +1,8 @@
 // The middle of a window, the bars between its first and its last: their extremes run along as the window grows.
 ghost use mathlib.Core.Path.{_≡_};
-ghost use Prim.Native.Nat.{_+_, _≤_};
 ghost use mathlib.Core.List.{[]};
 ghost use Rattle.measures.specs.Bar.{barsOf};
-ghost use Rattle.growing_rules.specs.Middle.{middleOf, entered, middleAt};
+ghost use Rattle.growing_rules.specs.Middle.{middleOf, entered, grownBy, middleAt};
 use measures::Bar;
 
 // The highest high and the lowest low, which pass NaN over, and whether no high, no low is NaN.
@@ -39,8 +38,7 @@ fn enter(m: Middle, b: Bar) -> Middle
 
 // The middle of the window of one bar more than n, whose first bar enters; where there is no older bar, the window stays as it is.
 pub(crate) fn grow(m: Middle, w: &[f64], n: usize) -> Middle
-    requires { ⌜ (2 ≤ n) × (m ≡ middleAt (barsOf (now w)) n) ⌝ }
-    ensures { λ r. ⌜ r ≡ middleAt (barsOf (now (w .entry))) (n + 1) ⌝ }
+    ensures { λ r. ⌜ r ≡ grownBy (barsOf (now (w .entry))) n m ⌝ }
 {
     if n < measures::count(w) {
         enter(m, measures::back(w, n))

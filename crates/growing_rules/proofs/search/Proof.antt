@@ -7,6 +7,7 @@ use Rattle.measures.specs.Bar.{barsOf}
 use Rattle.measures.specs.Window.{backOf}
 use Rattle.growing_rules.specs.Middle.{middleAt, beyond, searchedOf}
 use Rattle.growing_rules.proofs.GrowingNeeds.{search-ends, searched-none}
+use Rattle.growing_rules.proofs.MiddleLaws.{at-grown}
 use Rattle.growing_rules.proofs.search.Statement.{statement}
 use Rattle.growing_rules.proofs.search.Tie as tie
 
@@ -35,9 +36,6 @@ returns c =
 try-window-requires : tie.Need-try-window-requires Inv-loop μ-loop
 try-window-requires c κs = let now = c .before .before .before .loop in (omega arith, omega arith, now .inv .3, now .inv .2)
 
-grow-requires : tie.Need-grow-requires Inv-loop μ-loop
-grow-requires c κs = (omega arith, c .before .before .before .before .loop .inv .2)
-
 add-n : tie.Need-add-n Inv-loop μ-loop
 add-n c = omega arith
 
@@ -45,7 +43,10 @@ loop-less : tie.Need-loop-less Inv-loop μ-loop
 loop-less c = omega arith
 
 loop-again : tie.Need-loop-again Inv-loop μ-loop
-loop-again c = (omega arith, omega arith, c .grow .ensures, c .before .try-window .ensures)
+loop-again c =
+    let now = c .before .before .before .before .before .loop in
+    let w = barsOf (c .before .before .before .before .before .before .before .before .before .before .args .w .now) in
+    (omega arith, omega arith, c .grow .ensures ∙ rw (now .inv .2) (at-grown w (now .n) (omega arith)), c .before .try-window .ensures)
 
 returns-2 : tie.Need-returns-2 Inv-loop μ-loop
 returns-2 c =
@@ -54,4 +55,4 @@ returns-2 c =
     now .inv .3 ∙ rw e
 
 pub search-spec : {M : Type 1} → statement M
-search-spec = tie.close (tie.spec Inv-loop μ-loop (λ c κs. tt) (λ c κs. tt) (λ c κs. tt) loop-holds (λ c κs. tt) returns try-window-requires grow-requires add-n loop-less loop-again returns-2)
+search-spec = tie.close (tie.spec Inv-loop μ-loop (λ c κs. tt) (λ c κs. tt) (λ c κs. tt) loop-holds (λ c κs. tt) returns try-window-requires (λ c κs. tt) add-n loop-less loop-again returns-2)

@@ -1,22 +1,25 @@
--- An older bar is the oldest of the next middle; without one the window stays. Assumes nothing.
-use mathlib.Core.Path.{sym, _∙_}
+-- The code is the definition. Assumes nothing.
+use borrow.Author.Tests.{lt-ltb, le-ltb}
+use lib.ListN.{length}
 use native.Mathlib.Omega.{arith}
 use Rattle.measures.specs.Bar.{barsOf}
-use Rattle.growing_rules.proofs.MiddleLaws.{at-next, at-end}
+use Rattle.growing_rules.specs.Middle.{grownBy}
 use Rattle.growing_rules.proofs.middle.grow.Statement.{statement}
 use Rattle.growing_rules.proofs.middle.grow.Tie as tie
 
 returns : tie.Need-returns
+unfolding grownBy
 returns c =
     let start = c .before .before .before .before .before in
     let w = barsOf (start .args .w .now) in
-    simp (c .enter .ensures, c .before .back .ensures, start .pre .1) (sym (at-next w (start .args .n) (omega arith) (omega arith)))
+    simp (c .enter .ensures, c .before .back .ensures, lt-ltb (start .args .n) (length w) (omega arith))
 
 returns-2 : tie.Need-returns-2
+unfolding grownBy
 returns-2 c =
     let start = c .before .before .before in
     let w = barsOf (start .args .w .now) in
-    start .pre .1 ∙ sym (at-end w (start .args .n) (omega arith))
+    simp (le-ltb (start .args .n) (length w) (omega arith))
 
 pub grow-spec : {M : Type 1} → statement M
 grow-spec = tie.close (tie.spec (λ c κs. tt) (λ c κs. tt) (λ c κs. tt) returns returns-2)
