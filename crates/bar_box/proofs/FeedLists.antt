@@ -8,7 +8,7 @@ use mathlib.Core.List.{List, [], _∷_, _++_, flatten, append-nil}
 use native.Mathlib.Omega.{arith}
 use native.Mathlib.Nat.{zero-add}
 use lib.ListN.{length, length-append}
-use Rattle.measures.specs.Bar.{Bar, barsOf}
+use Rattle.measures.specs.Bar.{Bar, barsOf, pricesOf}
 use Rattle.measures.proofs.RunLaws.{length-bars}
 use Rattle.recognisers.specs.Threshold.{Thresholds, validOf}
 use Rattle.recognisers.specs.declared.call.Verdict.{Verdict}
@@ -16,12 +16,13 @@ use Rattle.recognisers.specs.declared.call.Verdict.the-variants.{Accepted, Deni
 use Rattle.recognisers.specs.Number.{rowBytes, mostBars}
 use Rattle.bar_box.specs.declared.boxes.BarBox.{BarBox}
 use Rattle.bar_box.specs.Sheet.{rowsOf}
-use Rattle.bar_box.specs.Box.{takenIn, leaves}
-use Rattle.bar_box.specs.History.{Feed, verdictOn, appended, historyAfter, verdictsOn, fed, boxLeft, boxAfter, verdictsOf, rowsIn, joinedRows, pricesOf, oneFeed, NoBars}
+use Rattle.bar_box.specs.Box.{takenIn}
+use Rattle.recognisers.specs.Refusal.{leaves}
+use Rattle.bar_box.specs.History.{Feed, verdictOn, appended, historyAfter, verdictsOn, fed, boxLeft, boxAfter, verdictsOf, rowsIn, joinedRows, oneFeed, NoBars}
 use Rattle.bar_box.proofs.SheetLaws.{rows-append}
 use Rattle.bar_box.proofs.BoxLaws.{taken-none}
 use Rattle.bar_box.proofs.CallLists.{kept, built, after-follows, each-follows}
-use Rattle.bar_box.proofs.PriceLaws.{length-prices, bars-prices}
+use Rattle.measures.proofs.PriceLaws.{length-prices, bars-prices}
 use Rattle.bar_box.proofs.FeedSteps.{fits, accepts, verdict-step, box-step, rows-step}
 
 -- ---- what the refusals see to

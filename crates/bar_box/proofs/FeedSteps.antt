@@ -10,19 +10,19 @@ use borrow.Author.Tests.{not-false, eqb-true, ltb-false, eq-eqb, le-ltb}
 use lib.ListN.{length, take, drop}
 use lib.Seq.{take-at, take-length}
 use lib.Ieee.{Float}
-use Rattle.measures.specs.Bar.{Bar, barsOf}
+use Rattle.measures.specs.Bar.{Bar, barsOf, overlay}
 use Rattle.measures.specs.Window.{newest}
 use Rattle.measures.proofs.RunLaws.{length-bars}
 use Rattle.recognisers.specs.Threshold.{Thresholds, validOf}
 use Rattle.recognisers.specs.declared.call.Verdict.{Verdict}
 use Rattle.recognisers.specs.declared.call.Verdict.the-variants.{Accepted, Denied}
 use Rattle.recognisers.specs.Number.{rowBytes, mostBars, places}
-use Rattle.recognisers.specs.Refusal.{Tried, firstTrue}
+use Rattle.recognisers.specs.Refusal.{Tried, firstTrue, leaves}
 use Rattle.bar_box.specs.declared.boxes.BarBox.{BarBox}
-use Rattle.bar_box.specs.Sheet.{rowsOf, overlay}
-use Rattle.bar_box.specs.Box.{kept, takenIn, feedTried, feedVerdict, leaves, fedOf, sheetOf}
+use Rattle.bar_box.specs.Sheet.{rowsOf}
+use Rattle.bar_box.specs.Box.{kept, takenIn, feedTried, feedVerdict, fedOf, sheetOf}
 use Rattle.bar_box.specs.History.{Feed, verdictOn, appended, fed, rowsIn, NoBars}
-use Rattle.bar_box.proofs.Overlay.{overlay-none}
+use Rattle.measures.proofs.Overlay.{overlay-none}
 use Rattle.bar_box.proofs.SheetLaws.{length-rows, rows-newest}
 use Rattle.bar_box.proofs.BoxLaws.{kept-taken, taken-append, taken-none}
 

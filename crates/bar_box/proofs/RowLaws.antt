@@ -6,13 +6,13 @@ use native.Mathlib.Omega.{arith}
 use native.Mathlib.Numerals.{add-one}
 use lib.ListN.{length, getD, take, drop, set, length-append, length-drop}
 use lib.Seq.{take-suc, take-add, length-take-le, getD-drop}
-use Rattle.measures.specs.Bar.{Bar, noBar}
+use Rattle.measures.specs.Bar.{Bar, noBar, overlay}
 use Rattle.recognisers.specs.Threshold.{Thresholds}
 use Rattle.recognisers.specs.Number.{rowBytes}
 use Rattle.recognisers.specs.Label.{Pair, codeOf}
 use Rattle.recognisers.specs.Table.{codesOf}
-use Rattle.bar_box.specs.Sheet.{rowOf, rowsOf, overlay}
-use Rattle.bar_box.proofs.Overlay.{overlay-next, overlay-more}
+use Rattle.bar_box.specs.Sheet.{rowOf, rowsOf}
+use Rattle.measures.proofs.Overlay.{overlay-next, overlay-more}
 use Rattle.bar_box.proofs.SheetLaws.{length-codes, length-row, length-rows, rows-append, rows-one}
 
 codes-append : (xs ys : List Pair) → codesOf (xs ++ ys) ≡ codesOf xs ++ codesOf ys

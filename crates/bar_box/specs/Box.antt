@@ -5,7 +5,7 @@ use mathlib.Core.List.{List, [], _∷_, _++_, map}
 use lib.Dec.{eqb}
 use lib.ListN.{length, take, drop, replicate}
 use lib.Ieee.{Float}
-use Rattle.measures.specs.Bar.{Bar, barOf, barsOf}
+use Rattle.measures.specs.Bar.{Bar, barOf, barsOf, overlay}
 use Rattle.measures.specs.Price.{zero}
 use Rattle.measures.specs.Window.{upTo, newest}
 use Rattle.recognisers.specs.Threshold.{Thresholds, standardSet}
@@ -18,11 +18,11 @@ use Rattle.recognisers.specs.declared.call.LookAnswer.the-variants as look
 use Rattle.recognisers.specs.Number.{places}
 use Rattle.recognisers.specs.Table.{pairAt}
 use Rattle.recognisers.specs.declared.call.Refusal.the-variants.{BadThreshold, BrokenBars, TooManyBars}
-use Rattle.recognisers.specs.Refusal.{Tried, tried, unknownRecogniser, zeroOffset, badThreshold, brokenBars, tooManyBars, shortSheet, farLook, badLayer, firstTrue, nextAfter, answerTo}
+use Rattle.recognisers.specs.Refusal.{Tried, tried, unknownRecogniser, zeroOffset, badThreshold, brokenBars, tooManyBars, shortSheet, farLook, badLayer, firstTrue, nextAfter, leaves, answerTo}
 use Rattle.bar_box.specs.declared.boxes.KeptBar.{KeptBar}
 use Rattle.bar_box.specs.declared.boxes.BarBox.{BarBox}
 use Rattle.bar_box.specs.declared.boxes.Outcome.{Outcome}
-use Rattle.bar_box.specs.Sheet.{rowsOf, overlay}
+use Rattle.bar_box.specs.Sheet.{rowsOf}
 
 -- ---- the box
 
@@ -95,11 +95,6 @@ checkedTried t layer n prices whole right sheet =
     (nextAfter BrokenBars (brokenBars whole ∷ [])
     (nextAfter TooManyBars (tried (not right) TooManyBars ∷ [])
     (feedTried t n prices sheet)))
-
--- what a call that may be refused leaves: a refusal leaves what was there
-abbrev pub leaves : {A : Type 0} → Verdict → A → A → A
-leaves Accepted was now = now
-leaves (Denied r) was now = was
 
 -- the box takes the bars in; a refusal leaves it as it was
 unfoldable pub fedOf : BarBox → List Float → ℕ → Outcome

@@ -1,13 +1,12 @@
 -- "What a list of feeds leaves": demand 3. The first part builds the plain history from what the feeds were lent; the second follows the
 -- calls; the third says how the two agree.
-use Prim.Native.Nat.{ℕ, _+_, _-_, _*_, _/_, _≤_, _<_, min}
+use Prim.Native.Nat.{ℕ, _+_, _-_, _*_, _≤_, _<_, min}
 use mathlib.Core.Path.{_≡_}
 use mathlib.Core.Bool.{true, cond}
 use mathlib.Core.List.{List, [], _∷_, _++_}
-use lib.Dec.{ltb}
 use lib.ListN.{length, getD, take, drop, replicate}
 use lib.Ieee.{Float}
-use Rattle.measures.specs.Bar.{Bar, noBar, barsOf}
+use Rattle.measures.specs.Bar.{Bar, noBar, barsOf, pricesOf}
 use Rattle.measures.specs.Window.{newest, backOf}
 use Rattle.recognisers.specs.Threshold.{Thresholds, standardSet, validOf}
 use Rattle.recognisers.specs.declared.call.Verdict.{Verdict}
@@ -16,13 +15,12 @@ use Rattle.recognisers.specs.declared.call.Answer.the-variants.{Labels}
 use Rattle.recognisers.specs.declared.call.LookAnswer.the-variants.{Judged}
 use Rattle.recognisers.specs.Number.{recognisers, rowBytes, gated, places, farthestLook}
 use Rattle.recognisers.specs.Table.{pairAt, codesOf}
-use Rattle.recognisers.specs.Refusal.{codesIn, answerIn, ordinalIn}
+use Rattle.recognisers.specs.Refusal.{codesIn, answerIn, ordinalIn, leaves}
 use Rattle.bar_box.specs.declared.boxes.KeptBar.{KeptBar}
 use Rattle.bar_box.specs.declared.boxes.BarBox.{BarBox}
 use Rattle.bar_box.specs.declared.boxes.Outcome.{Outcome}
-use Rattle.bar_box.specs.Sheet.{overlay}
 use Rattle.bar_box.specs.Calls.{after, each, joined}
-use Rattle.bar_box.specs.Box.{keptBar, numbered, emptyPlace, madeOf, feedVerdict, leaves, fedOf, sheetOf, lookOf, lookAnswerOf}
+use Rattle.bar_box.specs.Box.{keptBar, numbered, emptyPlace, madeOf, feedVerdict, fedOf, sheetOf, lookOf, lookAnswerOf}
 
 -- what a feed is lent
 pub record Feed : Type 0 where
@@ -68,15 +66,7 @@ rowsIn b f = leaves (fed b f .verdict) [] (take (rowBytes * length (barsOf (f .p
 abbrev pub joinedRows : BarBox → List Feed → List ℕ
 joinedRows = joined boxLeft rowsIn
 
--- the prices of bars, as a feed is lent them; and one feed of a whole history
-unfoldable pub pricesOf : List Bar → List Float
-pricesOf [] = []
-pricesOf (b ∷ bars) = b .«open» ∷ b .close ∷ b .high ∷ b .low ∷ pricesOf bars
-
--- a run of prices after those of a bar are put to it as its i-th, from 0; a run without room for them stays
-unfoldable pub putBar : List Float → ℕ → Bar → List Float
-putBar run i bar = cond (ltb i (length run / 4)) (overlay run (4 * i) (pricesOf (bar ∷ []))) run
-
+-- one feed of a whole history
 abbrev pub oneFeed : List Bar → List ℕ → Feed
 oneFeed history sheet = record { prices = pricesOf history; sheet = sheet }
 

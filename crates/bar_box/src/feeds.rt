@@ -4,11 +4,11 @@ ghost use mathlib.Core.Bool.{cond};
 ghost use Prim.Native.Nat.{_+_, _*_, _/_, _%_, _≤_};
 ghost use lib.Dec.{eqb};
 ghost use lib.ListN.{length, take};
-ghost use Rattle.measures.specs.Bar.{barsOf};
+ghost use Rattle.measures.specs.Bar.{barsOf, overlay};
 ghost use Rattle.recognisers.specs.Number.{rowBytes};
-ghost use Rattle.recognisers.specs.Refusal.{firstTrue};
-ghost use Rattle.bar_box.specs.Sheet.{rowsOf, before, overlay};
-ghost use Rattle.bar_box.specs.Box.{kept, takenIn, feedVerdict, checkedTried, leaves, fedOf, sheetOf};
+ghost use Rattle.recognisers.specs.Refusal.{firstTrue, leaves};
+ghost use Rattle.bar_box.specs.Sheet.{rowsOf, before};
+ghost use Rattle.bar_box.specs.Box.{kept, takenIn, feedVerdict, checkedTried, fedOf, sheetOf};
 use crate::boxes::BarBox;
 use crate::boxes::Outcome;
 use crate::runs;
@@ -106,7 +106,7 @@ fn take_in(b: BarBox, prices: &[f64], sheet: &mut [u8]) -> BarBox
     while i < old {
         let place = after.bars[from + i];
         let bar = place.bar;
-        runs::put_bar(bar, &mut run, i);
+        measures::put_bar(bar, &mut run, i);
         i += 1;
     }
     label(t, count, &mut run, old, prices, sheet);

@@ -6,7 +6,6 @@ ghost use Rattle.measures.specs.Window.{upTo};
 ghost use Rattle.bar_box.specs.Box.{barsIn, lookVerdict, lookAnswerOf};
 use crate::boxes::BarBox;
 use crate::boxes::KeptBar;
-use crate::runs;
 use measures::least;
 use measures::up_to;
 use recognisers::LookAnswer;
@@ -50,7 +49,7 @@ fn pair_back(t: Thresholds, count: u32, bars: [KeptBar; counts::PLACES], k: u32,
     while i < kept {
         let place = bars[i];
         let bar = place.bar;
-        runs::put_bar(bar, &mut run, i);
+        measures::put_bar(bar, &mut run, i);
         i += 1;
     }
     let end = 4 * kept;

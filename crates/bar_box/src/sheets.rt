@@ -2,10 +2,10 @@
 ghost use mathlib.Core.Path.{_≡_};
 ghost use Prim.Native.Nat.{_+_, _-_, _*_, _≤_};
 ghost use lib.ListN.{length, take, drop};
-ghost use Rattle.measures.specs.Bar.{barsOf};
+ghost use Rattle.measures.specs.Bar.{barsOf, overlay};
 ghost use Rattle.recognisers.specs.Number.{rowBytes};
 ghost use Rattle.recognisers.specs.Table.{codesOf};
-ghost use Rattle.bar_box.specs.Sheet.{rowsOf, overlay};
+ghost use Rattle.bar_box.specs.Sheet.{rowsOf};
 use recognisers::Pair;
 use recognisers::Thresholds;
 use recognisers::counts::REACH_BARS;

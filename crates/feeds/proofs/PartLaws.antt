@@ -7,7 +7,7 @@ use borrow.Rule.Slice.PartMut.{putMid}
 use lib.ListN.{length, take, drop, length-take, length-drop}
 use lib.Seq.{take-add, length-take-le}
 use lib.Ieee.{Float}
-use Rattle.measures.specs.Bar.{Bar, barsOf}
+use Rattle.measures.specs.Bar.{Bar, barsOf, overlay}
 use Rattle.measures.specs.Window.{upTo}
 use Rattle.measures.proofs.RunLaws.{length-bars, bars-drop, bars-take}
 use Rattle.recognisers.specs.Threshold.{Thresholds}
@@ -20,7 +20,7 @@ use Rattle.recognisers.specs.Number.{places}
 use Rattle.recognisers.specs.Refusal.{answerTo, answerIn}
 use Rattle.recognisers.specs.Export.{resultOf}
 use Rattle.bar_box.specs.declared.boxes.BarBox.{BarBox}
-use Rattle.bar_box.specs.Sheet.{rowsOf, overlay}
+use Rattle.bar_box.specs.Sheet.{rowsOf}
 use Rattle.bar_box.specs.Box.{freshBox, madeOf, kept, takenIn, feedVerdict, fedOf, sheetOf, lookOf, withOrdinal, lookAnswerOf}
 use Rattle.bar_box.proofs.BoxLaws.{taken-append}
 use Rattle.bar_box.proofs.FeedSteps.{fits, accepts}

@@ -8,7 +8,7 @@ use Rattle.recognisers.specs.declared.call.Verdict.{Verdict}
 use Rattle.recognisers.specs.declared.call.Verdict.the-variants.{Accepted, Denied}
 use Rattle.recognisers.specs.declared.call.LookAnswer.{LookAnswer}
 use Rattle.recognisers.specs.declared.call.LookAnswer.the-variants.{Refused}
-use Rattle.recognisers.specs.Refusal.{refusalNumber, answerTo, ordinalIn}
+use Rattle.recognisers.specs.Refusal.{answerTo, ordinalIn}
 use Rattle.recognisers.specs.Export.{resultOf}
 use Rattle.bar_box.specs.declared.boxes.Outcome.{Outcome}
 use Rattle.bar_box.specs.Box.{freshBox, fedOf, lookOf, lookAnswerOf}
@@ -16,11 +16,6 @@ use Rattle.bar_box.specs.Box.{freshBox, fedOf, lookOf, lookAnswerOf}
 -- one feed of all the prices to a fresh box with these thresholds
 abbrev pub oneFed : Thresholds → List Float → ℕ → Outcome
 oneFed t prices sheet = fedOf (freshBox t) prices sheet
-
--- the refusal's number, 0 for none
-abbrev pub verdictNumber : Verdict → ℕ
-verdictNumber Accepted = 0
-verdictNumber (Denied r) = refusalNumber r
 
 -- v1 × 256 + v2 of a look after that feed, or 65,536 plus the refusal of the feed or of the look
 unfoldable pub lookResult : ℕ → ℕ → Thresholds → List Float → ℕ → ℕ

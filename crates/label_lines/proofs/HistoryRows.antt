@@ -7,7 +7,7 @@ use native.Mathlib.Omega.{arith}
 use borrow.Author.Tests.{ltb-true, ltb-false, lt-ltb}
 use lib.Dec.{ltb}
 use lib.ListN.{length, replicate, length-append}
-use Rattle.measures.specs.Bar.{Bar, barsOf}
+use Rattle.measures.specs.Bar.{Bar, barsOf, pricesOf}
 use Rattle.recognisers.specs.declared.call.Refusal.the-variants as refusal
 use Rattle.recognisers.specs.declared.call.Verdict.the-variants.{Accepted, Denied}
 use Rattle.recognisers.specs.Number.{rowBytes, mostBars, places}
@@ -16,7 +16,7 @@ use Rattle.recognisers.specs.Threshold.{standardSet}
 use Rattle.bar_box.specs.declared.boxes.BarBox.{BarBox}
 use Rattle.bar_box.specs.Sheet.{rowOf}
 use Rattle.bar_box.specs.Box.{freshBox, takenIn, feedTried, feedVerdict, fedOf, sheetOf}
-use Rattle.bar_box.specs.History.{Feed, verdictOn, pricesOf, NoBars}
+use Rattle.bar_box.specs.History.{Feed, verdictOn, NoBars}
 use Rattle.bar_box.proofs.SheetLaws.{length-row, rows-one, rows-newest}
 use Rattle.bar_box.proofs.FeedSteps.{accepts, count-after, kept-after, verdict-step, box-step}
 use Rattle.bar_box.proofs.FeedLists.{at-start}

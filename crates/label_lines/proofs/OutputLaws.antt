@@ -7,8 +7,8 @@ use native.Mathlib.Omega.{arith}
 use lib.Dec.{eqb}
 use lib.ListN.{length, getD, drop, length-append, drop-of-length-le}
 use lib.Seq.{drop-cons}
-use Rattle.bar_box.specs.Sheet.{overlay}
-use Rattle.bar_box.proofs.Overlay.{overlay-more}
+use Rattle.measures.specs.Bar.{overlay}
+use Rattle.measures.proofs.Overlay.{overlay-more}
 use Rattle.text.specs.LabelText.{bytesOf}
 use Rattle.text.specs.LineText.{comma}
 use Rattle.text.specs.Lines.{lineFeed}

@@ -11,14 +11,13 @@ use borrow.Author.Tests.{ltb-true, ltb-false, leb-true, leb-false, eqb-true, lt-
 use lib.Dec.{ltb, leb, eqb}
 use lib.ListN.{length, take, drop, replicate, length-append, length-take, take-append-drop, drop-of-length-le}
 use lib.Seq.{take-all, take-add, length-take-le}
-use Rattle.measures.specs.Bar.{Bar}
+use Rattle.measures.specs.Bar.{Bar, pricesOf}
 use Rattle.recognisers.specs.declared.call.Refusal.{Refusal}
 use Rattle.recognisers.specs.declared.call.Verdict.the-variants.{Accepted, Denied}
 use Rattle.recognisers.specs.Number.{longestLine, rowBytes}
 use Rattle.bar_box.specs.declared.boxes.BarBox.{BarBox}
 use Rattle.bar_box.specs.declared.boxes.Outcome.{Outcome}
 use Rattle.bar_box.specs.Box.{fedOf, sheetOf}
-use Rattle.bar_box.specs.History.{pricesOf}
 use Rattle.text.specs.declared.lines.Partial.{Partial}
 use Rattle.text.specs.PriceText.{runOf}
 use Rattle.text.specs.Lines.{lineFeed, pieceEnd, keptLine, content, partialOf}

@@ -5,7 +5,7 @@ ghost use mathlib.Core.List.{[]};
 ghost use Prim.Native.Nat.{_+_, _-_, _≤_};
 ghost use lib.Dec.{eqb};
 ghost use lib.ListN.{length};
-ghost use Rattle.bar_box.specs.Sheet.{overlay};
+ghost use Rattle.measures.specs.Bar.{overlay};
 ghost use Rattle.text.specs.LabelText.{bytesOf};
 ghost use Rattle.label_lines.specs.Output.{numeral, field, rowLine, rowLines, lineRoom, refusalPart, refusalLine, badPriceLine, countLine, lineIn};
 use measures::least;

@@ -5,7 +5,7 @@ ghost use mathlib.Core.List.{[]};
 ghost use lib.Dec.{leb};
 ghost use Prim.Native.Nat.{_+_, _-_, _≤_};
 ghost use lib.ListN.{length, take};
-ghost use Rattle.bar_box.specs.Sheet.{overlay};
+ghost use Rattle.measures.specs.Bar.{overlay};
 ghost use Rattle.text.specs.Lines.{content};
 ghost use Rattle.label_lines.specs.Output.{lineRoom, refusalLine, badPriceLine, fedStep, stepOf};
 ghost use Rattle.label_lines.specs.Session.{stateOf, sessionOf, freshState, leaves, prints, usedOf, takenOf, absorbedOf, endPrints};

@@ -31,5 +31,6 @@ pub use windows::count;
 pub use windows::first_bars;
 pub use windows::last_bars;
 pub use windows::least;
+pub use windows::put_bar;
 pub use windows::up_to;
 pub use windows::window;

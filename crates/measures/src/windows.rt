@@ -3,7 +3,7 @@ ghost use mathlib.Core.Path.{_≡_};
 ghost use Prim.Native.Nat as Nat;
 ghost use Prim.Native.Nat.{_+_, _-_, _<_, _≤_};
 ghost use lib.ListN.{length, getD, take};
-ghost use Rattle.prices.specs.Bar.{barFrom, barsOf, noBar};
+ghost use Rattle.prices.specs.Bar.{barFrom, barsOf, noBar, putBar};
 ghost use Rattle.measures.specs.Window.{upTo, backOf, windowOf, pricesFrom, windowPrices, partOf};
 use prices::bars::Bar;
 use prices::price;
@@ -34,6 +34,19 @@ pub(crate) fn bar_at(prices: &[f64], i: usize) -> Bar
     ensures { λ r. ⌜ r ≡ getD (barsOf (now (prices .entry))) i noBar ⌝ }
 {
     bar_from(prices, i * 4)
+}
+
+// The prices of a bar go into a run as those of its i-th bar, if there is room.
+pub fn put_bar(bar: Bar, out: &mut [f64], i: usize)
+    ensures { λ _. ⌜ now (out .exit) ≡ putBar (now (out .entry)) i bar ⌝ }
+{
+    if i < out.len() / 4 {
+        let at = 4 * i;
+        out[at] = bar.open;
+        out[at + 1] = bar.close;
+        out[at + 2] = bar.high;
+        out[at + 3] = bar.low;
+    }
 }
 
 // What stands past the end of a run.

@@ -1,8 +1,9 @@
 -- A bar, the bars of a run of prices, and the measures of one bar: body, upper, lower, doji.
-use Prim.Native.Nat.{ℕ, _+_}
-use mathlib.Core.Bool.{Bool, _&&_, _||_}
-use mathlib.Core.List.{List, [], _∷_}
-use lib.ListN.{getD}
+use Prim.Native.Nat.{ℕ, _+_, _*_, _/_}
+use mathlib.Core.Bool.{Bool, cond, _&&_, _||_}
+use mathlib.Core.List.{List, [], _∷_, _++_}
+use lib.Dec.{ltb}
+use lib.ListN.{length, getD, take, drop}
 use lib.Ieee.{Float, binary64, nan, sub, div, eq, ne, lt}
 use Rattle.prices.specs.declared.bars.Bar.{Bar}
 use Rattle.prices.specs.Price.{ten, maxOf, minOf, absOf}
@@ -27,6 +28,19 @@ barsOf (o ∷ []) = []
 barsOf (o ∷ c ∷ []) = []
 barsOf (o ∷ c ∷ h ∷ []) = []
 barsOf (o ∷ c ∷ h ∷ l ∷ rest) = barOf o c h l ∷ barsOf rest
+
+-- their prices again
+unfoldable pub pricesOf : List Bar → List Float
+pricesOf [] = []
+pricesOf (b ∷ bars) = b .«open» ∷ b .close ∷ b .high ∷ b .low ∷ pricesOf bars
+
+-- a list written over from a place on; what lies before and past the new elements stays
+abbrev pub overlay : {A : Type 0} → List A → ℕ → List A → List A
+overlay s at xs = take at s ++ xs ++ drop (at + length xs) s
+
+-- a run of prices after those of a bar are put to it as its i-th, from 0; a run without room for them stays
+unfoldable pub putBar : List Float → ℕ → Bar → List Float
+putBar run i bar = cond (ltb i (length run / 4)) (overlay run (4 * i) (pricesOf (bar ∷ []))) run
 
 -- ---- the measures of one bar
 

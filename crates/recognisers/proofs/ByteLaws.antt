@@ -11,7 +11,7 @@ use Rattle.measures.specs.Bar.{barsOf}
 use Rattle.measures.specs.Window.{upTo, windowOf, pricesFrom}
 use Rattle.measures.proofs.RunLaws.{length-bars, bars-part}
 use Rattle.measures.proofs.WindowLaws.{upTo-le, window-part}
-use Rattle.recognisers.specs.Export.{littleEndian, wordAt, priceAt, pricesAt, pricesOf}
+use Rattle.recognisers.specs.Export.{littleEndian, wordAt, priceAt, pricesAt, decodedPrices}
 
 -- eight bytes, one by one
 eight : (s : List ℕ) → littleEndian (take 8 s) ≡ wordAt s 0
@@ -54,8 +54,8 @@ length-prices s at zero = refl
 length-prices s at (suc n) = ap suc (length-prices s (at + 8) n)
 
 -- a history has a bar for each 32 bytes
-pub length-history : (s : List ℕ) → length (barsOf (pricesOf s)) ≡ length s / 32
-unfolding pricesOf
+pub length-history : (s : List ℕ) → length (barsOf (decodedPrices s)) ≡ length s / 32
+unfolding decodedPrices
 length-history s =
     let e : length (pricesAt s 0 (length s / 8)) ≡ length s / 8 = length-prices s 0 (length s / 8) in
     omega (arith, length-bars (pricesAt s 0 (length s / 8)))
@@ -81,8 +81,8 @@ prices-part s k n all h =
 
 -- the window's prices stand in the bytes of its bars
 pub window-bytes : (s : List ℕ) (di n : ℕ) → let p = upTo (length s / 32) di in
-    barsOf (pricesAt s (32 * (p - min n p)) (4 * min n p)) ≡ windowOf (barsOf (pricesOf s)) di n
-unfolding pricesOf
+    barsOf (pricesAt s (32 * (p - min n p)) (4 * min n p)) ≡ windowOf (barsOf (decodedPrices s)) di n
+unfolding decodedPrices
 window-bytes s di n =
     let len = length s / 32 in
     let p = upTo len di in

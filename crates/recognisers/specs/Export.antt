@@ -27,8 +27,8 @@ pricesAt s at zero = []
 pricesAt s at (suc n) = priceAt s at ∷ pricesAt s (at + 8) n
 
 -- the prices that bytes stand for
-unfoldable pub pricesOf : List ℕ → List Float
-pricesOf bytes = pricesAt bytes 0 (length bytes / 8)
+unfoldable pub decodedPrices : List ℕ → List Float
+decodedPrices bytes = pricesAt bytes 0 (length bytes / 8)
 
 -- the result is v1 × 256 + v2, or 65,536 plus the refusal
 abbrev pub pairNumber : Pair → ℕ
@@ -40,7 +40,7 @@ resultOf (Refused r) = 65536 + refusalNumber r
 
 -- a plain call over the bars of the bytes
 unfoldable pub exportOf : ℕ → ℕ → Thresholds → List ℕ → ℕ
-exportOf k di t bytes = resultOf (plainAnswer k di t (eqb (length bytes % 32) 0) (barsOf (pricesOf bytes)))
+exportOf k di t bytes = resultOf (plainAnswer k di t (eqb (length bytes % 32) 0) (barsOf (decodedPrices bytes)))
 
 -- ---- the sum of those eight bytes written out, as the code has it
 abbrev pub wordAt : List ℕ → ℕ → ℕ

@@ -100,6 +100,16 @@ unfoldable pub firstTrue : List Tried → Verdict
 firstTrue [] = Accepted
 firstTrue (x ∷ xs) = cond (x .met) (Denied (x .why)) (firstTrue xs)
 
+-- its number, 0 for none
+abbrev pub verdictNumber : Verdict → ℕ
+verdictNumber Accepted = 0
+verdictNumber (Denied r) = refusalNumber r
+
+-- what a call that may be refused leaves: a refusal leaves what was there
+abbrev pub leaves : {A : Type 0} → Verdict → A → A → A
+leaves Accepted was now = now
+leaves (Denied r) was now = was
+
 -- tests with others next after those of a refusal: "next after 3", or "5 also covers" for others of the same
 unfoldable pub nextAfter : Refusal → List Tried → List Tried → List Tried
 nextAfter r more [] = more

@@ -10,7 +10,7 @@ ghost use Rattle.measures.specs.Window.{windowOf};
 ghost use Rattle.rule_types.specs.Number.{gated, quarterBars};
 ghost use Rattle.rule_table.specs.Threshold.{thresholdsOf};
 ghost use Rattle.rule_table.specs.Table.{pairAt};
-ghost use Rattle.recognisers.specs.Export.{wordAt, priceAt, pricesAt, pricesOf, pairNumber, resultOf, exportOf};
+ghost use Rattle.recognisers.specs.Export.{wordAt, priceAt, pricesAt, decodedPrices, pairNumber, resultOf, exportOf};
 use crate::call;
 use crate::call::Answer;
 use crate::call::Verdict;
@@ -80,7 +80,7 @@ fn prices_at(s: &[u8], at: usize, n: usize, out: &mut [f64])
 // many prices there are.
 fn decode(s: &[u8], di: usize, n: usize, out: &mut [f64]) -> usize
     requires { ⌜ 4 * n ≤ length (now out) ⌝ }
-    ensures { λ r. ⌜ (r ≤ 4 * n) × (barsOf (take r (now (out .exit))) ≡ windowOf (barsOf (pricesOf (now (s .entry)))) di n) ⌝ }
+    ensures { λ r. ⌜ (r ≤ 4 * n) × (barsOf (take r (now (out .exit))) ≡ windowOf (barsOf (decodedPrices (now (s .entry)))) di n) ⌝ }
 {
     let p = measures::up_to(s.len() / 32, di);
     let m = measures::least(n, p);
@@ -102,7 +102,7 @@ pub fn gate_bars(k: u32) -> usize
 
 // The pair at an offset of the history that bytes stand for. Only the bars that the rule can see are read.
 fn pair_at(k: u32, t: Thresholds, di: u32, s: &[u8]) -> Pair
-    ensures { λ r. ⌜ r ≡ pairAt k t (length (barsOf (pricesOf (now (s .entry))))) (barsOf (pricesOf (now (s .entry)))) di ⌝ }
+    ensures { λ r. ⌜ r ≡ pairAt k t (length (barsOf (decodedPrices (now (s .entry))))) (barsOf (decodedPrices (now (s .entry)))) di ⌝ }
 {
     let len = s.len() / 32;
     let p = measures::up_to(len, di as usize);

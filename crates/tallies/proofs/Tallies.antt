@@ -17,7 +17,8 @@ use Rattle.recognisers.specs.declared.call.Verdict.{Verdict}
 use Rattle.recognisers.specs.declared.call.Verdict.the-variants.{Accepted, Denied}
 use Rattle.bar_box.specs.declared.boxes.BarBox.{BarBox}
 use Rattle.bar_box.specs.Sheet.{rowsOf}
-use Rattle.bar_box.specs.Box.{takenIn, leaves, fedOf, sheetOf}
+use Rattle.bar_box.specs.Box.{takenIn, fedOf, sheetOf}
+use Rattle.recognisers.specs.Refusal.{leaves}
 use Rattle.bar_box.specs.Calls.{after, each}
 use Rattle.bar_box.specs.History.{Feed, verdictOn, appended, historyAfter, fed, boxLeft, boxAfter, verdictsOf, rowsIn, joinedRows, oneFeed, NoBars}
 use Rattle.bar_box.proofs.SheetLaws.{length-rows, rows-append}

@@ -7,9 +7,9 @@ use lib.Ieee.{Float}
 use Rattle.recognisers.specs.Threshold.{Thresholds}
 use Rattle.recognisers.specs.declared.call.Refusal.the-variants.{TooManyBars}
 use Rattle.recognisers.specs.declared.call.Verdict.{Verdict}
-use Rattle.recognisers.specs.Refusal.{Tried, tried, firstTrue, nextAfter}
+use Rattle.recognisers.specs.Refusal.{Tried, tried, firstTrue, nextAfter, leaves}
 use Rattle.bar_box.specs.declared.boxes.BarBox.{BarBox}
-use Rattle.bar_box.specs.Box.{feedTried, leaves, sheetOf}
+use Rattle.bar_box.specs.Box.{feedTried, sheetOf}
 use Rattle.bar_box.specs.History.{Feed, fed, rowsIn}
 use Rattle.tallies.specs.declared.table.TallyRow.{TallyRow}
 use Rattle.tallies.specs.declared.feeds.Tallied.{Tallied}

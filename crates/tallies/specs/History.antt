@@ -12,7 +12,8 @@ use Rattle.recognisers.specs.Table.{pairAt}
 use Rattle.recognisers.specs.Threshold.{Thresholds}
 use Rattle.recognisers.specs.declared.call.Verdict.{Verdict}
 use Rattle.bar_box.specs.declared.boxes.BarBox.{BarBox}
-use Rattle.bar_box.specs.Box.{leaves, sheetOf}
+use Rattle.bar_box.specs.Box.{sheetOf}
+use Rattle.recognisers.specs.Refusal.{leaves}
 use Rattle.bar_box.specs.Calls.{after, each, joined}
 use Rattle.bar_box.specs.History.{Feed, historyAfter, boxLeft, boxAfter, verdictsOf, joinedRows, oneFeed, Holds, NoBars}
 use Rattle.tallies.specs.declared.table.TallyRow.{TallyRow}

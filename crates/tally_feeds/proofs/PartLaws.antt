@@ -6,13 +6,12 @@ use borrow.Rule.Slice.PartMut.{putMid}
 use lib.ListN.{length, take, drop}
 use lib.Seq.{take-add}
 use lib.Ieee.{Float}
-use Rattle.measures.specs.Bar.{Bar, barsOf}
+use Rattle.measures.specs.Bar.{Bar, barsOf, overlay}
 use Rattle.recognisers.specs.Number.{places}
 use Rattle.recognisers.specs.Threshold.{Thresholds}
 use Rattle.recognisers.specs.declared.call.Refusal.{Refusal}
 use Rattle.recognisers.specs.declared.call.Verdict.the-variants.{Accepted, Denied}
 use Rattle.bar_box.specs.declared.boxes.BarBox.{BarBox}
-use Rattle.bar_box.specs.Sheet.{overlay}
 use Rattle.bar_box.specs.Box.{freshBox, takenIn, feedVerdict, sheetOf}
 use Rattle.bar_box.specs.History.{Feed}
 use Rattle.bar_box.proofs.PartLaws.{restOf}

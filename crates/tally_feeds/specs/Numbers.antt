@@ -6,8 +6,9 @@ use lib.ListN.{length, getD, take, replicate}
 use lib.Ieee.{Float}
 use Rattle.recognisers.specs.Number.{recognisers, labels}
 use Rattle.recognisers.specs.Threshold.{Thresholds}
-use Rattle.bar_box.specs.Sheet.{overlay}
-use Rattle.bar_box.specs.Box.{freshBox, leaves}
+use Rattle.measures.specs.Bar.{overlay}
+use Rattle.bar_box.specs.Box.{freshBox}
+use Rattle.recognisers.specs.Refusal.{leaves}
 use Rattle.tallies.specs.declared.table.TallyRow.{TallyRow}
 use Rattle.tallies.specs.declared.feeds.Tallied.{Tallied}
 use Rattle.tallies.specs.Tally.{freshTally, cellOf, byPlace, gained}

@@ -2,7 +2,7 @@
 ghost use mathlib.Core.Path.{_≡_};
 ghost use Prim.Native.Nat.{_+_, _*_, _<_};
 ghost use lib.ListN.{length, getD, take, replicate};
-ghost use Rattle.bar_box.specs.Sheet.{overlay};
+ghost use Rattle.measures.specs.Bar.{overlay};
 ghost use Rattle.tallies.specs.Tally.{cellOf, gainRow};
 ghost use Rattle.tally_feeds.specs.Numbers.{tallyIn, numbersOf};
 use feeds::numbers::number_at;

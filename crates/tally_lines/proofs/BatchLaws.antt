@@ -8,7 +8,7 @@ use native.Mathlib.Omega.{arith}
 use borrow.Author.Tests.{eq-eqb, le-ltb}
 use lib.ListN.{length}
 use lib.Ieee.{Float}
-use Rattle.measures.specs.Bar.{Bar, barsOf}
+use Rattle.measures.specs.Bar.{Bar, barsOf, pricesOf}
 use Rattle.recognisers.specs.declared.call.Refusal.{Refusal}
 use Rattle.recognisers.specs.declared.call.Verdict.{Verdict}
 use Rattle.recognisers.specs.declared.call.Verdict.the-variants.{Accepted, Denied}
@@ -17,7 +17,6 @@ use Rattle.recognisers.specs.Refusal.{badThreshold, tooManyBars, firstTrue, nex
 use Rattle.recognisers.specs.Threshold.{validOf}
 use Rattle.bar_box.specs.declared.boxes.BarBox.{BarBox}
 use Rattle.bar_box.specs.Box.{numbered, held, feedTried, takenIn}
-use Rattle.bar_box.specs.History.{pricesOf}
 use Rattle.bar_box.proofs.BoxLaws.{length-laid, taken-append}
 use Rattle.bar_box.proofs.FeedSteps.{fits}
 use Rattle.tallies.specs.declared.table.TallyRow.{TallyRow}

@@ -5,7 +5,7 @@ use mathlib.Core.Path.{_≡_, refl, sym, _∙_}
 use native.Mathlib.Omega.{arith}
 use borrow.Author.Tests.{lt-ltb}
 use lib.ListN.{length}
-use Rattle.measures.specs.Bar.{Bar, barsOf}
+use Rattle.measures.specs.Bar.{Bar, barsOf, pricesOf}
 use Rattle.recognisers.specs.declared.call.Refusal.the-variants as refusal
 use Rattle.recognisers.specs.declared.call.Verdict.the-variants.{Accepted, Denied}
 use Rattle.recognisers.specs.Number.{rowBytes, mostBars}
@@ -13,7 +13,7 @@ use Rattle.recognisers.specs.Refusal.{firstTrue}
 use Rattle.recognisers.specs.Threshold.{standardSet}
 use Rattle.bar_box.specs.declared.boxes.BarBox.{BarBox}
 use Rattle.bar_box.specs.Box.{freshBox, takenIn, feedTried, feedVerdict}
-use Rattle.bar_box.specs.History.{verdictOn, pricesOf, NoBars}
+use Rattle.bar_box.specs.History.{verdictOn, NoBars}
 use Rattle.bar_box.proofs.FeedSteps.{accepts, count-after, verdict-step}
 use Rattle.bar_box.proofs.FeedLists.{at-start}
 use Rattle.bar_box.proofs.Demand3.{standard-valid, fresh-none}

@@ -5,10 +5,8 @@ use mathlib.Core.Path.{_≡_}
 use native.Mathlib.Omega.{arith}
 use lib.ListN.{length, set}
 use lib.Ieee.{Float}
-use Rattle.measures.specs.Bar.{Bar}
-use Rattle.bar_box.specs.Sheet.{overlay}
-use Rattle.bar_box.specs.History.{pricesOf}
-use Rattle.bar_box.proofs.Overlay.{overlay-none, overlay-next}
+use Rattle.measures.specs.Bar.{Bar, overlay, pricesOf}
+use Rattle.measures.proofs.Overlay.{overlay-none, overlay-next}
 
 pub put-bar : (s : List Float) (at : ℕ) (b : Bar) → at + 4 ≤ length s
     → set (set (set (set s at (b .«open»)) (at + 1) (b .close)) (at + 2) (b .high)) (at + 3) (b .low) ≡ overlay s at (pricesOf (b ∷ []))

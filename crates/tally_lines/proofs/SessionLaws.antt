@@ -11,7 +11,7 @@ use Rattle.measures.specs.Bar.{Bar}
 use Rattle.recognisers.specs.declared.call.Verdict.{Verdict}
 use Rattle.recognisers.specs.declared.call.Verdict.the-variants.{Accepted, Denied}
 use Rattle.bar_box.specs.declared.boxes.BarBox.{BarBox}
-use Rattle.bar_box.specs.Box.{leaves}
+use Rattle.recognisers.specs.Refusal.{leaves}
 use Rattle.tallies.specs.declared.table.TallyRow.{TallyRow}
 use Rattle.tallies.specs.declared.feeds.Tallied.{Tallied}
 use Rattle.tallies.specs.Feed.{talliedOf}

@@ -13,7 +13,7 @@ use Rattle.recognisers.specs.declared.call.Refusal.the-variants as refusal
 use Rattle.recognisers.specs.declared.call.Verdict.{Verdict}
 use Rattle.recognisers.specs.declared.call.Verdict.the-variants.{Accepted, Denied}
 use Rattle.recognisers.specs.Number.{mostBars}
-use Rattle.bar_box.specs.Box.{leaves}
+use Rattle.recognisers.specs.Refusal.{leaves}
 use Rattle.tallies.specs.Tally.{freshTally}
 use Rattle.text.specs.declared.line_text.Line.{Line}
 use Rattle.text.specs.declared.line_text.Line.the-variants.{Prices, BadShape, BadPrice}

@@ -5,15 +5,16 @@ use mathlib.Core.Bool.{Bool, true, false, cond}
 use mathlib.Core.List.{List, [], _∷_, _++_}
 use lib.Dec.{eqb}
 use lib.ListN.{length, replicate}
-use Rattle.measures.specs.Bar.{Bar}
+use Rattle.measures.specs.Bar.{Bar, pricesOf}
 use Rattle.recognisers.specs.declared.call.Refusal.the-variants as refusal
 use Rattle.recognisers.specs.declared.call.Verdict.{Verdict}
 use Rattle.recognisers.specs.declared.call.Verdict.the-variants.{Accepted, Denied}
 use Rattle.recognisers.specs.Number.{rowBytes}
 use Rattle.recognisers.specs.Threshold.{standardSet}
 use Rattle.bar_box.specs.declared.boxes.BarBox.{BarBox}
-use Rattle.bar_box.specs.Box.{freshBox, leaves}
-use Rattle.bar_box.specs.History.{Feed, pricesOf}
+use Rattle.bar_box.specs.Box.{freshBox}
+use Rattle.recognisers.specs.Refusal.{leaves}
+use Rattle.bar_box.specs.History.{Feed}
 use Rattle.tallies.specs.declared.table.TallyRow.{TallyRow}
 use Rattle.tallies.specs.declared.feeds.Tallied.{Tallied}
 use Rattle.tallies.specs.Tally.{freshTally}

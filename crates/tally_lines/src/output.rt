@@ -2,7 +2,7 @@
 ghost use mathlib.Core.Path.{_≡_};
 ghost use Prim.Native.Nat.{_+_, _≤_};
 ghost use lib.ListN.{length};
-ghost use Rattle.bar_box.specs.Sheet.{overlay};
+ghost use Rattle.measures.specs.Bar.{overlay};
 ghost use Rattle.tally_lines.specs.Output.{cellLine, cellLines, tallyLines, rowRoom, tallyRoom};
 use label_lines::output::print_count;
 use tallies::TallyRow;

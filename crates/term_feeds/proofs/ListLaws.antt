@@ -7,8 +7,8 @@ use native.Mathlib.Decide.{decLt}
 use borrow.Rule.Slice.PartMut.{putMid}
 use lib.ListN.{length, take, drop, length-take, length-drop, drop-of-length-le}
 use lib.Seq.{take-all, take-add, take-at, drop-at, drop-drop, length-take-le}
-use Rattle.bar_box.specs.Sheet.{overlay}
-use Rattle.bar_box.proofs.Overlay.{overlay-none, overlay-more}
+use Rattle.measures.specs.Bar.{overlay}
+use Rattle.measures.proofs.Overlay.{overlay-none, overlay-more}
 use Rattle.bar_box.proofs.BoxLaws.{take-same, drop-same}
 
 module _ {A : Type 0} where

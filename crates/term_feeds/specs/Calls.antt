@@ -4,12 +4,11 @@ use mathlib.Core.List.{List, [], _∷_, _++_}
 use lib.ListN.{length, getD, take, drop}
 use lib.Ieee.{Float}
 use Rattle.recognisers.specs.Number.{rowBytes}
-use Rattle.recognisers.specs.Refusal.{refusalNumber}
+use Rattle.recognisers.specs.Refusal.{refusalNumber, leaves}
 use Rattle.recognisers.specs.Threshold.{Thresholds}
 use Rattle.recognisers.specs.declared.call.Verdict.{Verdict}
 use Rattle.recognisers.specs.declared.call.Verdict.the-variants.{Accepted, Denied}
-use Rattle.bar_box.specs.Box.{leaves}
-use Rattle.bar_box.specs.Sheet.{overlay}
+use Rattle.measures.specs.Bar.{overlay}
 use Rattle.trading_hours.specs.declared.hours.DayWindow.{DayWindow}
 use Rattle.trading_hours.specs.declared.hours.Hours.{Hours}
 use Rattle.trading_hours.specs.Hours.{mostWindows, windowFrom, hoursWith}

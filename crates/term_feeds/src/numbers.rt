@@ -3,7 +3,7 @@ ghost use mathlib.Core.List.{[], _∷_};
 ghost use mathlib.Core.Path.{_≡_};
 ghost use Prim.Native.Nat.{_-_, _≤_};
 ghost use lib.ListN.{length, take};
-ghost use Rattle.bar_box.specs.Sheet.{overlay};
+ghost use Rattle.measures.specs.Bar.{overlay};
 ghost use Rattle.term_feeds.specs.Calls.{windowIn, hoursIn, answerBy};
 use feeds::numbers::number_at;
 use measures::least;

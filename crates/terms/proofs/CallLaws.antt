@@ -13,15 +13,14 @@ use Rattle.recognisers.specs.declared.call.Refusal.the-variants.{BadThreshold, 
 use Rattle.recognisers.specs.declared.call.Verdict.{Verdict}
 use Rattle.recognisers.specs.declared.call.Verdict.the-variants.{Accepted, Denied}
 use Rattle.recognisers.specs.Refusal.{Tried, brokenBars, badLayer, firstTrue, nextAfter}
-use Rattle.bar_box.specs.Sheet.{rowsOf, overlay}
+use Rattle.bar_box.specs.Sheet.{rowsOf}
 use Rattle.bar_box.specs.Box.{kept, takenIn, feedTried, feedVerdict, checkedTried, fedOf, sheetOf}
-use Rattle.bar_box.specs.History.{pricesOf}
-use Rattle.bar_box.proofs.PriceLaws.{bars-prices}
+use Rattle.measures.proofs.PriceLaws.{bars-prices}
 use Rattle.bar_box.proofs.FeedSteps.{none-true, accepts}
 use Rattle.trading_hours.specs.declared.hours.Hours.{Hours}
 use Rattle.terms.specs.declared.events.LastStamp.{LastStamp}
 use Rattle.terms.specs.declared.events.LastStamp.the-variants.{Never, At}
-use Rattle.measures.specs.Bar.{Bar}
+use Rattle.measures.specs.Bar.{Bar, overlay, pricesOf}
 use Rattle.terms.specs.declared.events.OpenBar.{OpenBar}
 use Rattle.terms.specs.declared.events.OpenBar.the-variants.{Nothing}
 use Rattle.terms.specs.declared.events.Carried.{Carried}

@@ -6,7 +6,7 @@ use mathlib.Core.List.{List, [], _∷_, _++_}
 use native.Mathlib.Omega.{arith}
 use lib.ListN.{length, take, drop}
 use lib.Seq.{take-at}
-use Rattle.measures.specs.Bar.{Bar}
+use Rattle.measures.specs.Bar.{Bar, pricesOf}
 use Rattle.measures.specs.Bar.{barsOf}
 use Rattle.measures.proofs.RunLaws.{length-bars}
 use Rattle.recognisers.specs.Threshold.{Thresholds}
@@ -14,11 +14,12 @@ use Rattle.recognisers.specs.declared.call.Verdict.{Verdict}
 use Rattle.recognisers.specs.declared.call.Verdict.the-variants.{Accepted, Denied}
 use Rattle.recognisers.specs.Number.{places, rowBytes, mostBars}
 use Rattle.bar_box.specs.Sheet.{rowsOf}
-use Rattle.bar_box.specs.Box.{takenIn, leaves, feedVerdict, fedOf}
-use Rattle.bar_box.specs.History.{pricesOf, oneFeed, fed, NoBars}
+use Rattle.bar_box.specs.Box.{takenIn, feedVerdict, fedOf}
+use Rattle.recognisers.specs.Refusal.{leaves}
+use Rattle.bar_box.specs.History.{oneFeed, fed, NoBars}
 use Rattle.bar_box.proofs.SheetLaws.{length-rows, rows-newest}
 use Rattle.bar_box.proofs.BoxLaws.{taken-append}
-use Rattle.bar_box.proofs.PriceLaws.{length-prices}
+use Rattle.measures.proofs.PriceLaws.{length-prices}
 use Rattle.bar_box.proofs.FeedSteps.{fits, count-after, kept-after}
 use Rattle.trading_hours.specs.declared.hours.Hours.{Hours}
 use Rattle.terms.specs.declared.events.Carried.{Carried}

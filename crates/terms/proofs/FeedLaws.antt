@@ -7,14 +7,12 @@ use borrow.Rule.Slice.PartMut.{putMid}
 use lib.ListN.{length, take}
 use lib.Seq.{length-take-le}
 use lib.Ieee.{Float}
-use Rattle.measures.specs.Bar.{Bar, barsOf}
+use Rattle.measures.specs.Bar.{Bar, barsOf, overlay, pricesOf}
 use Rattle.recognisers.specs.Threshold.{Thresholds}
 use Rattle.recognisers.specs.declared.call.Verdict.the-variants.{Accepted}
 use Rattle.bar_box.specs.declared.boxes.BarBox.{BarBox}
-use Rattle.bar_box.specs.Sheet.{overlay}
 use Rattle.bar_box.specs.Box.{takenIn, feedVerdict, fedOf, sheetOf}
-use Rattle.bar_box.specs.History.{pricesOf}
-use Rattle.bar_box.proofs.PriceLaws.{length-prices}
+use Rattle.measures.proofs.PriceLaws.{length-prices}
 use Rattle.bar_box.proofs.FeedSteps.{fits, accepts}
 use Rattle.bar_box.proofs.PartLaws.{rowsFrom, restOf, length-rest, overlay-rest, fed-box, fed-sheet}
 

@@ -8,15 +8,15 @@ use borrow.Author.Tests.{not-false}
 use lib.ListN.{length, take, drop, length-drop, take-append-drop}
 use lib.Seq.{take-all}
 use lib.Ieee.{Float}
-use Rattle.measures.specs.Bar.{Bar, barsOf}
+use Rattle.measures.specs.Bar.{Bar, barsOf, overlay, pricesOf}
 use Rattle.measures.proofs.RunLaws.{length-bars, bars-drop}
 use Rattle.recognisers.specs.Number.{places}
 use Rattle.recognisers.specs.declared.call.Verdict.{Verdict}
 use Rattle.recognisers.specs.declared.call.Verdict.the-variants.{Accepted, Denied}
-use Rattle.bar_box.specs.Sheet.{rowsOf, overlay}
-use Rattle.bar_box.specs.Box.{takenIn, leaves, feedVerdict, madeOf as boxMade}
-use Rattle.bar_box.specs.History.{pricesOf}
-use Rattle.bar_box.proofs.Overlay.{overlay-none}
+use Rattle.bar_box.specs.Sheet.{rowsOf}
+use Rattle.bar_box.specs.Box.{takenIn, feedVerdict, madeOf as boxMade}
+use Rattle.recognisers.specs.Refusal.{leaves}
+use Rattle.measures.proofs.Overlay.{overlay-none}
 use Rattle.bar_box.proofs.BoxLaws.{taken-none}
 use Rattle.bar_box.proofs.FeedSteps.{none-true, fits, accepts}
 use Rattle.bar_box.proofs.PartLaws.{rowsFrom, made-valid}

@@ -6,7 +6,7 @@ use mathlib.Core.List.{List, [], _∷_, _++_, flatten, append-nil}
 use native.Mathlib.Omega.{arith}
 use native.Mathlib.Nat.{zero-add}
 use lib.ListN.{length, length-append}
-use Rattle.measures.specs.Bar.{Bar}
+use Rattle.measures.specs.Bar.{Bar, pricesOf}
 use Rattle.recognisers.specs.Threshold.{Thresholds}
 use Rattle.recognisers.specs.declared.call.Verdict.{Verdict}
 use Rattle.recognisers.specs.declared.call.Verdict.the-variants.{Accepted, Denied}
@@ -15,13 +15,14 @@ use Rattle.bar_box.specs.Sheet.{rowsOf}
 use Rattle.measures.specs.Bar.{barsOf}
 use Rattle.recognisers.specs.Threshold.{standardSet, validOf}
 use borrow.Author.Tests.{not-false}
-use Rattle.bar_box.specs.Box.{leaves, fedOf}
+use Rattle.bar_box.specs.Box.{fedOf}
+use Rattle.recognisers.specs.Refusal.{leaves}
 use Rattle.bar_box.specs.Calls.{after, each}
 use Rattle.bar_box.proofs.CallLists.{kept, built, after-follows, each-follows}
 use Rattle.bar_box.proofs.SheetLaws.{rows-append}
 use Rattle.bar_box.proofs.BoxLaws.{taken-none}
-use Rattle.bar_box.specs.History.{pricesOf, oneFeed, historyAfter, verdictOn as boxVerdictOn, appended as boxAppended}
-use Rattle.bar_box.proofs.PriceLaws.{length-prices, bars-prices}
+use Rattle.bar_box.specs.History.{oneFeed, historyAfter, verdictOn as boxVerdictOn, appended as boxAppended}
+use Rattle.measures.proofs.PriceLaws.{length-prices, bars-prices}
 use Rattle.bar_box.proofs.Demand3.{standard-valid, fresh-none, demand-3}
 use Rattle.bar_box.proofs.FeedSteps.{none-true, fits}
 use Rattle.bar_box.proofs.FeedLists.{Sound, sound-empty, one-accepted, one-box, one-rows}

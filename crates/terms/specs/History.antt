@@ -11,7 +11,7 @@ use Rattle.recognisers.specs.Threshold.{Thresholds, validOf}
 use Rattle.recognisers.specs.declared.call.Verdict.{Verdict}
 use Rattle.recognisers.specs.declared.call.Verdict.the-variants.{Accepted}
 use Rattle.recognisers.specs.Number.{rowBytes}
-use Rattle.bar_box.specs.Box.{leaves}
+use Rattle.recognisers.specs.Refusal.{leaves}
 use Rattle.bar_box.specs.Calls.{after, each, joined}
 use Rattle.bar_box.specs.History.{NoBars, oneFeed, fed, rowsIn, Holds as BoxHolds}
 use Rattle.trading_hours.specs.declared.hours.Hours.{Hours}

@@ -5,15 +5,14 @@ use mathlib.Core.List.{List, [], _∷_, _++_}
 use lib.Dec.{ltb, eqb}
 use lib.ListN.{length}
 use lib.Ieee.{Float}
-use Rattle.measures.specs.Bar.{Bar, barsOf}
+use Rattle.measures.specs.Bar.{Bar, barsOf, pricesOf}
 use Rattle.recognisers.specs.Threshold.{Thresholds, standardSet}
 use Rattle.recognisers.specs.declared.call.Refusal.the-variants.{BadThreshold, BrokenBars}
 use Rattle.recognisers.specs.declared.call.Verdict.{Verdict}
 use Rattle.recognisers.specs.declared.call.Verdict.the-variants.{Accepted, Denied}
-use Rattle.recognisers.specs.Refusal.{Tried, badThreshold, brokenBars, lateStamp, outsideHours, badLayer, firstTrue, nextAfter}
+use Rattle.recognisers.specs.Refusal.{Tried, badThreshold, brokenBars, lateStamp, outsideHours, badLayer, firstTrue, nextAfter, leaves}
 use Rattle.bar_box.specs.declared.boxes.BarBox.{BarBox}
-use Rattle.bar_box.specs.Box.{freshBox, feedTried, leaves, fedOf, sheetOf}
-use Rattle.bar_box.specs.History.{pricesOf}
+use Rattle.bar_box.specs.Box.{freshBox, feedTried, fedOf, sheetOf}
 use Rattle.trading_hours.specs.declared.hours.Hours.{Hours}
 use Rattle.trading_hours.specs.Hours.{dayMinutes, windowFrom, noWindow, hoursWith, withZeros, validHours, inHours, termLength}
 use Rattle.terms.specs.declared.events.LastStamp.{LastStamp}

@@ -9,7 +9,7 @@ use Rattle.recognisers.specs.declared.call.Verdict.the-variants.{Accepted}
 use Rattle.recognisers.specs.Refusal.{firstTrue}
 use Rattle.bar_box.specs.declared.boxes.BarBox.{BarBox}
 use Rattle.bar_box.specs.Box.{takenIn}
-use Rattle.bar_box.specs.History.{pricesOf}
+use Rattle.measures.specs.Bar.{pricesOf}
 use Rattle.trading_hours.specs.declared.hours.Hours.{Hours}
 use Rattle.trading_hours.specs.Hours.{validHours}
 use Rattle.trading_hours.specs.TermRule.{endOf}

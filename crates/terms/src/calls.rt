@@ -2,9 +2,9 @@
 ghost use mathlib.Core.Path.{_≡_};
 ghost use Prim.Native.Nat.{_+_, _*_, _≤_};
 ghost use lib.ListN.{length, take};
-ghost use Rattle.measures.specs.Bar.{barsOf};
+ghost use Rattle.measures.specs.Bar.{barsOf, overlay};
 ghost use Rattle.recognisers.specs.declared.call.Verdict.the-variants.{Accepted};
-ghost use Rattle.bar_box.specs.Sheet.{rowsOf, overlay};
+ghost use Rattle.bar_box.specs.Sheet.{rowsOf};
 ghost use Rattle.bar_box.specs.Box.{kept, takenIn, feedVerdict};
 ghost use Rattle.terms.specs.Events.{endedOf, minutesOf};
 ghost use Rattle.terms.specs.Layer.{madeOf, ranOf, ranSheet, closedOf, closedSheet};

@@ -1,7 +1,7 @@
 // The layer.
 ghost use mathlib.Core.Path.{_≡_};
 ghost use Rattle.recognisers.specs.Threshold.{standardSet};
-ghost use Rattle.bar_box.specs.Box.{leaves};
+ghost use Rattle.recognisers.specs.Refusal.{leaves};
 ghost use Rattle.trading_hours.specs.Hours.{withZeros};
 ghost use Rattle.terms.specs.Events.{nothingYet};
 ghost use Rattle.terms.specs.Layer.{layerWith, wholeDay};

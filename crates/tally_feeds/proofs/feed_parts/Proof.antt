@@ -5,11 +5,11 @@ use mathlib.Core.Path.{_≡_, refl, sym, _∙_}
 use native.Mathlib.Omega.{arith}
 use lib.ListN.{length, length-map, take}
 use lib.Seq.{take-all}
-use Rattle.measures.specs.Bar.{barsOf}
+use Rattle.measures.specs.Bar.{barsOf, overlay}
 use Rattle.measures.proofs.RunLaws.{length-bars}
-use Rattle.bar_box.specs.Sheet.{rowsOf, overlay}
+use Rattle.bar_box.specs.Sheet.{rowsOf}
 use Rattle.bar_box.specs.Box.{takenIn}
-use Rattle.bar_box.proofs.Overlay.{overlay-none}
+use Rattle.measures.proofs.Overlay.{overlay-none}
 use Rattle.bar_box.proofs.BoxLaws.{taken-none}
 use Rattle.bar_box.proofs.FeedSteps.{fits}
 use Rattle.feeds.proofs.PartLaws.{taken-more, rows-more, next-room}

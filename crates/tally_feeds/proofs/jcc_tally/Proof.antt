@@ -3,7 +3,7 @@ use mathlib.Core.Path.{_∙_, ap, sym}
 use Rattle.recognisers.specs.Threshold.{Thresholds}
 use Rattle.bar_box.specs.declared.boxes.Outcome.{Outcome}
 use Rattle.bar_box.specs.Box.{madeOf}
-use Rattle.feeds.specs.Result.{verdictNumber}
+use Rattle.recognisers.specs.Refusal.{verdictNumber}
 use Rattle.feeds.proofs.PartLaws.{made-fresh}
 use Rattle.tally_feeds.proofs.PartLaws.{plain-accepted, one-refused, one-accepted}
 use borrow.Author.Needs.{needs}

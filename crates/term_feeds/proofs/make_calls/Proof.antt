@@ -7,8 +7,8 @@ use native.Mathlib.Nat.{sub-zero}
 use borrow.Author.Needs.{needs}
 use lib.ListN.{length, take, drop, drop-of-length-le, take-append-drop}
 use lib.Seq.{take-all}
-use Rattle.bar_box.specs.Sheet.{overlay}
-use Rattle.bar_box.proofs.Overlay.{overlay-none}
+use Rattle.measures.specs.Bar.{overlay}
+use Rattle.measures.proofs.Overlay.{overlay-none}
 use Rattle.terms.specs.declared.layers.Taken.{Taken}
 use Rattle.term_feeds.specs.Calls.{answersOf, sheetOf}
 use Rattle.term_feeds.proofs.ListLaws.{overlay-step}

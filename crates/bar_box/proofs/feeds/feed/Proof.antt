@@ -5,9 +5,10 @@ use native.Mathlib.Omega.{arith}
 use borrow.Author.Needs.{needs}
 use lib.ListN.{length, length-take, length-map}
 use Rattle.recognisers.specs.Number.{places}
-use Rattle.measures.specs.Bar.{barsOf}
-use Rattle.bar_box.specs.Sheet.{rowsOf, overlay}
-use Rattle.bar_box.specs.Box.{kept, takenIn, leaves, fedOf, sheetOf}
+use Rattle.measures.specs.Bar.{barsOf, overlay}
+use Rattle.bar_box.specs.Sheet.{rowsOf}
+use Rattle.bar_box.specs.Box.{kept, takenIn, fedOf, sheetOf}
+use Rattle.recognisers.specs.Refusal.{leaves}
 use Rattle.bar_box.proofs.FeedSteps.{lent-few, lent-fits, lent-box, lent-sheet}
 use Rattle.bar_box.proofs.feeds.feed.Statement.{statement}
 use Rattle.bar_box.proofs.feeds.feed.Tie as tie

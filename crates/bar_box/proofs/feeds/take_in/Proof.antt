@@ -6,12 +6,10 @@ use native.Mathlib.Omega.{arith}
 use borrow.Author.Needs.{needs}
 use lib.ListN.{length, getD, take, drop, set, length-set, length-drop, length-map}
 use Rattle.recognisers.specs.Number.{places}
-use Rattle.measures.specs.Bar.{barsOf}
-use Rattle.bar_box.specs.Sheet.{overlay}
+use Rattle.measures.specs.Bar.{barsOf, overlay, pricesOf}
 use Rattle.bar_box.specs.Box.{numbered, barsIn}
-use Rattle.bar_box.specs.History.{pricesOf}
-use Rattle.bar_box.proofs.Overlay.{overlay-none, overlay-copy}
-use Rattle.bar_box.proofs.PriceLaws.{put-next}
+use Rattle.measures.proofs.Overlay.{overlay-none, overlay-copy}
+use Rattle.measures.proofs.PriceLaws.{put-next}
 use Rattle.bar_box.specs.declared.boxes.BarBox.{BarBox}
 use Rattle.bar_box.proofs.OrdinalLaws.{noKept, bar-at, length-numbered, numbered-from}
 use Rattle.bar_box.proofs.SeamLaws.{run-rows}

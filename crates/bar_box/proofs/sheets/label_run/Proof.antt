@@ -5,10 +5,10 @@ use native.Mathlib.Omega.{arith}
 use borrow.Author.Needs.{needs}
 use lib.ListN.{length, take, drop, length-drop}
 use lib.Seq.{take-all}
-use Rattle.measures.specs.Bar.{barsOf}
+use Rattle.measures.specs.Bar.{barsOf, overlay}
 use Rattle.measures.proofs.RunLaws.{length-bars}
-use Rattle.bar_box.specs.Sheet.{rowOf, rowsOf, overlay}
-use Rattle.bar_box.proofs.Overlay.{overlay-none}
+use Rattle.bar_box.specs.Sheet.{rowOf, rowsOf}
+use Rattle.measures.proofs.Overlay.{overlay-none}
 use Rattle.bar_box.proofs.RowLaws.{overlay-row}
 use Rattle.bar_box.proofs.sheets.label_run.Statement.{statement}
 use Rattle.bar_box.proofs.sheets.label_run.Tie as tie

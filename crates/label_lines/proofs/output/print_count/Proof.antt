@@ -5,7 +5,7 @@ use native.Mathlib.Omega.{arith}
 use borrow.Author.Needs.{needs}
 use borrow.Author.Tests.{le-leb, lt-leb}
 use lib.ListN.{length}
-use Rattle.bar_box.proofs.Overlay.{overlay-none}
+use Rattle.measures.proofs.Overlay.{overlay-none}
 use Rattle.label_lines.proofs.output.print_count.Statement.{statement}
 use Rattle.label_lines.proofs.output.print_count.Tie as tie
 

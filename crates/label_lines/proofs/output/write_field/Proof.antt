@@ -6,8 +6,8 @@ use native.Mathlib.Omega.{arith}
 use borrow.Author.Needs.{needs}
 use lib.ListN.{length, take, length-set, length-append}
 use lib.Seq.{take-all}
-use Rattle.bar_box.specs.Sheet.{overlay}
-use Rattle.bar_box.proofs.Overlay.{overlay-none, overlay-next, overlay-copy}
+use Rattle.measures.specs.Bar.{overlay}
+use Rattle.measures.proofs.Overlay.{overlay-none, overlay-next, overlay-copy}
 use Rattle.label_lines.proofs.output.write_field.Statement.{statement}
 use Rattle.label_lines.proofs.output.write_field.Tie as tie
 

@@ -3,7 +3,7 @@ use mathlib.Core.Path.{sym}
 use native.Mathlib.Omega.{arith}
 use borrow.Author.Needs.{needs}
 use borrow.Author.Tests.{eq-eqb, ne-eqb}
-use Rattle.bar_box.proofs.Overlay.{overlay-none}
+use Rattle.measures.proofs.Overlay.{overlay-none}
 use Rattle.label_lines.proofs.output.write_pair.Statement.{statement}
 use Rattle.label_lines.proofs.output.write_pair.Tie as tie
 

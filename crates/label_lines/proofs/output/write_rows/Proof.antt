@@ -4,8 +4,8 @@ use mathlib.Core.Path.{_≡_, refl, sym, _∙_}
 use native.Mathlib.Omega.{arith}
 use borrow.Author.Needs.{needs}
 use lib.ListN.{length, getD, drop, length-append}
-use Rattle.bar_box.specs.Sheet.{overlay}
-use Rattle.bar_box.proofs.Overlay.{overlay-none}
+use Rattle.measures.specs.Bar.{overlay}
+use Rattle.measures.proofs.Overlay.{overlay-none}
 use Rattle.label_lines.specs.Output.{rowLines}
 use Rattle.label_lines.proofs.OutputLaws.{Written, written-on, pairLine, pair-most, rows-most, rows-end, rows-next}
 use Rattle.label_lines.proofs.output.write_rows.Statement.{statement}

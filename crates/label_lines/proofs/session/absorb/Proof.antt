@@ -7,8 +7,8 @@ use native.Mathlib.Omega.{arith}
 use borrow.Author.Needs.{needs}
 use lib.ListN.{length, take, drop, length-map, length-take, length-drop, length-append}
 use lib.Seq.{take-all}
-use Rattle.bar_box.specs.Sheet.{overlay}
-use Rattle.bar_box.proofs.Overlay.{overlay-none, overlay-more, length-overlay}
+use Rattle.measures.specs.Bar.{overlay}
+use Rattle.measures.proofs.Overlay.{overlay-none, overlay-more, length-overlay}
 use Rattle.text.specs.Lines.{content, keptLine, partialOf}
 use Rattle.text.proofs.LineLaws.{content-partial}
 use Rattle.text.proofs.PartLaws.{to-end}

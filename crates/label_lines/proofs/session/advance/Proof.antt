@@ -5,7 +5,7 @@ use native.Mathlib.Omega.{arith}
 use borrow.Author.Needs.{needs}
 use lib.ListN.{length, take}
 use lib.Seq.{length-take-le}
-use Rattle.bar_box.proofs.Overlay.{overlay-none}
+use Rattle.measures.proofs.Overlay.{overlay-none}
 use Rattle.text.specs.Lines.{content, keptLine}
 use Rattle.text.proofs.LineLaws.{content-partial}
 use Rattle.label_lines.specs.Session.{stateOf}

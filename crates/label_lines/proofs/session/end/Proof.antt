@@ -6,7 +6,7 @@ use borrow.Author.Needs.{needs}
 use borrow.Author.Tests.{leb-true, not-true}
 use lib.Dec.{leb}
 use lib.ListN.{length}
-use Rattle.bar_box.proofs.Overlay.{overlay-none}
+use Rattle.measures.proofs.Overlay.{overlay-none}
 use Rattle.text.proofs.RunLaws.{both}
 use Rattle.label_lines.specs.Output.{lineRoom}
 use Rattle.label_lines.specs.Session.{stateOf}

@@ -1,7 +1,7 @@
 -- A refused feed leaves the box, and the line that is printed is its; an accepted one leaves the box after it. Assumes nothing.
 use mathlib.Core.Path.{refl}
 use borrow.Author.Needs.{needs}
-use Rattle.bar_box.specs.History.{pricesOf}
+use Rattle.measures.specs.Bar.{pricesOf}
 use Rattle.label_lines.proofs.SessionLaws.{fed-refused, fed-left, fed-accepted}
 use Rattle.label_lines.proofs.session.feed_bar.Statement.{statement}
 use Rattle.label_lines.proofs.session.feed_bar.Tie as tie

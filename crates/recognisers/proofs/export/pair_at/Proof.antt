@@ -6,7 +6,7 @@ use Rattle.measures.specs.Bar.{barsOf}
 use Rattle.measures.specs.Window.{windowOf}
 use Rattle.rule_types.specs.Number.{reachBars}
 use Rattle.rule_table.proofs.Reach.{pair-near}
-use Rattle.recognisers.specs.Export.{pricesOf}
+use Rattle.recognisers.specs.Export.{decodedPrices}
 use Rattle.recognisers.proofs.ByteLaws.{length-history}
 use Rattle.rule_table.proofs.TableLaws.{gate-enough}
 use Rattle.recognisers.proofs.export.pair_at.Statement.{statement}
@@ -46,7 +46,7 @@ returns c =
     let bars = gate .before .before in
     let window = bars .before .before in
     let args = window .before .before .before .before .args in
-    let history = barsOf (pricesOf (args .s .now)) in
+    let history = barsOf (decodedPrices (args .s .now)) in
     simp (pair-near, c .judge .ensures, gate .decode2 .ensures .1, bars .gate-bars .ensures .0, window .decode .ensures .1, window .before .before .up-to .ensures, length-history (args .s .now)) (gate-enough (args .k) (args .t) _ _ (windowOf history (args .di) reachBars) history)
 
 pub pair-at-spec : {M : Type 1} → statement M

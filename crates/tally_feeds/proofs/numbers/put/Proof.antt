@@ -4,8 +4,8 @@ use Prim.Native.Nat.{_-_, _≤_, _<_}
 use mathlib.Core.Path.{_≡_, refl, sym, _∙_}
 use native.Mathlib.Omega.{arith}
 use lib.ListN.{length, take, length-set}
-use Rattle.bar_box.specs.Sheet.{overlay}
-use Rattle.bar_box.proofs.Overlay.{overlay-none, overlay-copy}
+use Rattle.measures.specs.Bar.{overlay}
+use Rattle.measures.proofs.Overlay.{overlay-none, overlay-copy}
 use Rattle.bar_box.proofs.BoxLaws.{take-same}
 use Rattle.tally_feeds.specs.Numbers.{numbersOf}
 use Rattle.tally_feeds.proofs.NumberLaws.{length-numbers, number-of}

@@ -5,7 +5,7 @@ use native.Mathlib.Omega.{arith}
 use borrow.Author.Needs.{needs}
 use borrow.Author.Tests.{eq-eqb, ne-eqb, le-leb}
 use lib.ListN.{length}
-use Rattle.bar_box.proofs.Overlay.{overlay-none}
+use Rattle.measures.proofs.Overlay.{overlay-none}
 use Rattle.label_lines.proofs.OutputLaws.{count-most}
 use Rattle.tally_lines.proofs.output.write_cell.Statement.{statement}
 use Rattle.tally_lines.proofs.output.write_cell.Tie as tie

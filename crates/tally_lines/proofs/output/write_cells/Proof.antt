@@ -5,7 +5,7 @@ use native.Mathlib.Omega.{arith}
 use borrow.Author.Needs.{needs}
 use lib.ListN.{length, getD, take, length-map}
 use lib.Seq.{take-all}
-use Rattle.bar_box.proofs.Overlay.{overlay-none}
+use Rattle.measures.proofs.Overlay.{overlay-none}
 use Rattle.label_lines.proofs.OutputLaws.{Written, written-on}
 use Rattle.tally_lines.specs.Output.{cellLine, cellLines}
 use Rattle.tally_lines.proofs.OutputLaws.{cell-most, cells-next}

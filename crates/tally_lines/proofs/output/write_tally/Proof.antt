@@ -6,7 +6,7 @@ use native.Mathlib.Omega.{arith}
 use borrow.Author.Needs.{needs}
 use lib.ListN.{length, getD, take}
 use lib.Seq.{take-all}
-use Rattle.bar_box.proofs.Overlay.{overlay-none}
+use Rattle.measures.proofs.Overlay.{overlay-none}
 use Rattle.tallies.specs.Tally.{rowOfCounts}
 use Rattle.label_lines.proofs.OutputLaws.{Written, written-on}
 use Rattle.tally_lines.specs.Output.{cellLines, tallyLines, rowRoom}

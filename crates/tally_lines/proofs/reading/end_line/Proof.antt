@@ -3,8 +3,8 @@ use Prim.Native.Nat.{_*_}
 use mathlib.Core.Path.{refl, sym, _∙_}
 use native.Mathlib.Omega.{arith}
 use lib.ListN.{length-set}
-use Rattle.bar_box.specs.History.{pricesOf}
-use Rattle.bar_box.proofs.Overlay.{overlay-none}
+use Rattle.measures.specs.Bar.{pricesOf}
+use Rattle.measures.proofs.Overlay.{overlay-none}
 use Rattle.tally_lines.proofs.PriceLaws.{put-bar}
 use borrow.Author.Needs.{needs}
 use Rattle.tally_lines.proofs.reading.end_line.Statement.{statement}

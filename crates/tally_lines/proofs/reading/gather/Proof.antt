@@ -7,10 +7,9 @@ use mathlib.Core.Path.{_≡_, refl, sym, ap, _∙_}
 use native.Mathlib.Omega.{arith}
 use borrow.Author.Needs.{needs}
 use lib.ListN.{length, take, drop, length-append, length-drop}
-use Rattle.bar_box.specs.Sheet.{overlay}
-use Rattle.bar_box.specs.History.{pricesOf}
-use Rattle.bar_box.proofs.Overlay.{overlay-none, overlay-more}
-use Rattle.bar_box.proofs.PriceLaws.{length-prices, prices-append}
+use Rattle.measures.specs.Bar.{overlay, pricesOf}
+use Rattle.measures.proofs.Overlay.{overlay-none, overlay-more}
+use Rattle.measures.proofs.PriceLaws.{length-prices, prices-append}
 use Rattle.text.specs.Lines.{content, keptLine, partialOf}
 use Rattle.text.proofs.LineLaws.{content-partial}
 use Rattle.text.proofs.PartLaws.{to-end}

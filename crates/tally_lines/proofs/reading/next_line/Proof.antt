@@ -4,8 +4,8 @@ use mathlib.Core.List.{[], _++_}
 use mathlib.Core.Path.{_≡_, refl, sym}
 use native.Mathlib.Omega.{arith}
 use lib.ListN.{length, take}
-use Rattle.bar_box.specs.History.{pricesOf}
-use Rattle.bar_box.proofs.Overlay.{overlay-none}
+use Rattle.measures.specs.Bar.{pricesOf}
+use Rattle.measures.proofs.Overlay.{overlay-none}
 use Rattle.text.specs.LineText.{lineOf}
 use Rattle.text.specs.Lines.{content, keptLine}
 use Rattle.text.proofs.LineLaws.{content-partial}

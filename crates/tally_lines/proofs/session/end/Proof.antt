@@ -2,7 +2,7 @@
 use mathlib.Core.Path.{refl, sym, ap}
 use native.Mathlib.Omega.{arith}
 use borrow.Author.Tests.{le-leb, lt-leb}
-use Rattle.bar_box.proofs.Overlay.{overlay-none}
+use Rattle.measures.proofs.Overlay.{overlay-none}
 use Rattle.tally_lines.specs.Session.{printed}
 use borrow.Author.Needs.{needs}
 use Rattle.tally_lines.proofs.session.end.Statement.{statement}

@@ -5,7 +5,7 @@ use mathlib.Core.List.{List, [], _∷_}
 use native.Mathlib.Omega.{arith}
 use lib.ListN.{length, set}
 use lib.Seq.{take-all}
-use Rattle.bar_box.proofs.Overlay.{overlay-none, overlay-next}
+use Rattle.measures.proofs.Overlay.{overlay-none, overlay-next}
 use Rattle.term_feeds.specs.Calls.{answerBy}
 use borrow.Author.Needs.{needs}
 use Rattle.term_feeds.proofs.numbers.put_answer.Statement.{statement}

@@ -6,7 +6,7 @@ use borrow.Author.Needs.{needs}
 use lib.ListN.{length, length-map, length-drop, drop}
 use lib.Seq.{take-all}
 use Rattle.recognisers.specs.declared.call.Verdict.the-variants.{Accepted}
-use Rattle.bar_box.specs.Box.{leaves}
+use Rattle.recognisers.specs.Refusal.{leaves}
 use Rattle.bar_box.proofs.FeedSteps.{lent-few}
 use Rattle.terms.specs.declared.calls.Progress.{Progress}
 use Rattle.terms.specs.Layer.{layerWith, taken}

@@ -5,12 +5,12 @@ use native.Mathlib.Omega.{arith}
 use borrow.Author.Needs.{needs}
 use lib.ListN.{length, length-map, take, drop, length-append}
 use lib.Seq.{take-all}
-use Rattle.measures.specs.Bar.{barsOf}
-use Rattle.bar_box.specs.Sheet.{rowsOf, overlay}
+use Rattle.measures.specs.Bar.{barsOf, overlay}
+use Rattle.bar_box.specs.Sheet.{rowsOf}
 use Rattle.bar_box.specs.Box.{kept, takenIn}
-use Rattle.bar_box.proofs.Overlay.{overlay-none}
+use Rattle.measures.proofs.Overlay.{overlay-none}
 use Rattle.bar_box.proofs.BoxLaws.{taken-none, taken-append}
-use Rattle.bar_box.proofs.PriceLaws.{bars-prices}
+use Rattle.measures.proofs.PriceLaws.{bars-prices}
 use Rattle.bar_box.proofs.PartLaws.{rows-both}
 use Rattle.terms.specs.Events.{endedOf, carriedOf, minutesOf}
 use Rattle.terms.proofs.EventLaws.{length-minutes, ended-more, carried-more}

@@ -6,11 +6,9 @@ use Prim.Native.Nat.{_+_, _-_, _*_, _≤_, _<_}
 use mathlib.Core.List.{_++_}
 use lib.ListN.{length, getD, take, drop, length-append, length-take, length-drop}
 use lib.Seq.{take-at}
-use Rattle.measures.specs.Bar.{noBar, barsOf}
-use Rattle.bar_box.specs.Sheet.{overlay}
-use Rattle.bar_box.specs.History.{pricesOf}
-use Rattle.bar_box.proofs.Overlay.{overlay-none, overlay-more}
-use Rattle.bar_box.proofs.PriceLaws.{length-prices, prices-append}
+use Rattle.measures.specs.Bar.{noBar, barsOf, overlay, pricesOf}
+use Rattle.measures.proofs.Overlay.{overlay-none, overlay-more}
+use Rattle.measures.proofs.PriceLaws.{length-prices, prices-append}
 use Rattle.terms.specs.declared.events.Step.{Step}
 use Rattle.terms.specs.Events.{stepOf, barsIn, endedOf, carriedOf, minutesOf}
 use Rattle.terms.proofs.EventLaws.{turn-of, few-in, ended-few, length-minutes, ended-next, carried-next, passed-some}

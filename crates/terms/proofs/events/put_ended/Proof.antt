@@ -3,8 +3,8 @@ use mathlib.Core.Path.{sym}
 use native.Mathlib.Omega.{arith}
 use Prim.Native.Nat.{_*_}
 use lib.ListN.{length-set}
-use Rattle.bar_box.specs.History.{pricesOf}
-use Rattle.bar_box.proofs.Overlay.{overlay-none, overlay-four}
+use Rattle.measures.specs.Bar.{pricesOf}
+use Rattle.measures.proofs.Overlay.{overlay-none, overlay-four}
 use borrow.Author.Needs.{needs}
 use Rattle.terms.proofs.events.put_ended.Statement.{statement}
 use Rattle.terms.proofs.events.put_ended.Tie as tie
