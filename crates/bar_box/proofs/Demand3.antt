@@ -3,31 +3,32 @@ use Prim.Native.Nat.{ℕ, _+_, _-_, _*_, _≤_, _<_, min}
 use mathlib.Core.Path.{_≡_, refl, ap, sym, _∙_}
 use mathlib.Core.Bool.{Bool, true, false, cond, not}
 use mathlib.Core.List.{List, [], _∷_, _++_}
+use mathlib.Core.Logic.{inr}
 use native.Mathlib.Omega.{arith}
 use native.Mathlib.Nat.{zero-add}
 use lib.ListN.{length, drop}
 use lib.Ieee.{le, ofBits}
 use Rattle.measures.specs.Bar.{Bar}
 use Rattle.measures.specs.Window.{newest, backOf}
-use Rattle.measures.proofs.WindowLaws.{upTo-in}
+use Rattle.measures.proofs.WindowLaws.{upTo-in, upTo-out}
 use Rattle.recognisers.specs.Threshold.{Thresholds, standardSet, validOf}
 use Rattle.recognisers.specs.declared.call.Refusal.the-variants.{BadThreshold}
 use Rattle.recognisers.specs.declared.call.Verdict.the-variants.{Accepted, Denied}
-use Rattle.recognisers.specs.declared.call.Answer.the-variants.{Labels}
 use Rattle.recognisers.specs.declared.call.LookAnswer.the-variants.{Judged}
 use Rattle.recognisers.specs.Number.{recognisers, rowBytes, gated, places, farthestLook}
-use Rattle.recognisers.specs.Table.{pairAt, codesOf}
+use Rattle.recognisers.specs.Table.{pairAt, shortOf, codesOf}
 use Rattle.recognisers.specs.Refusal.{firstTrue}
+use Rattle.recognisers.proofs.TableLaws.{no-bar}
 use Rattle.bar_box.specs.declared.boxes.BarBox.{BarBox}
 use Rattle.bar_box.specs.Sheet.{rowsOf}
-use Rattle.bar_box.specs.Box.{keptBar, numbered, takenIn, emptyPlace, emptyPlaces, freshBox, madeBy, madeOf, lookOf, lookAnswerOf}
-use Rattle.bar_box.specs.History.{Feed, historyAfter, boxAfter, verdictsOf, joinedRows, printed, barWith, inPlace, Holds, NoBars, Fresh, ZerosLeft, Demand3}
+use Rattle.bar_box.specs.Box.{keptBar, numbered, takenIn, emptyPlace, emptyPlaces, freshBox, madeBy, madeOf, lookAnswerOf}
+use Rattle.bar_box.specs.History.{Feed, historyAfter, boxAfter, verdictsOf, joinedRows, printed, barWith, inPlace, InLimits, Within, Holds, NoBars, Fresh, ZerosLeft, Demand3}
 use Rattle.bar_box.proofs.SheetLaws.{length-rows}
 use Rattle.bar_box.proofs.OrdinalLaws.{length-numbered, place-at}
 use Rattle.bar_box.proofs.BoxLaws.{drop-replicate}
 use Rattle.bar_box.proofs.RowPairs.{pair-in}
 use Rattle.bar_box.proofs.FeedLists.{Sound, sound-empty, sound-after, verdicts-after, box-after, rows-after, one-accepted, one-box, one-rows}
-use Rattle.bar_box.proofs.LookBack.{look-back, look-ordinal, look-beyond, pair-up-to}
+use Rattle.bar_box.proofs.LookBack.{look-ordinal, pair-up-to}
 
 -- ---- every box without bars
 
@@ -61,15 +62,15 @@ module _ (b : BarBox) (start : NoBars b) (fs : List Feed) where
       → let ordinal = length joined - min (length joined) places + i in inPlace (boxAfter b fs) i ≡ keptBar (barWith joined ordinal) ordinal
   kept-place i one within = rw whole-box (place-at joined (drop (length joined) (b .bars)) i one within)
 
-  -- a look gives the pair over the joined history
-  look-joined : (di k : ℕ) → 1 ≤ di → di ≤ farthestLook → di ≤ length joined → k < recognisers
-      → lookOf (boxAfter b fs) k di ≡ Labels (pairAt k (b .thresholds) (length joined) joined di)
-  look-joined di k one near within known = rw joined-box (look-back b start joined k di (joined-sound .valid (omega arith)) (joined-sound .few) known one near)
+  -- a look gives the pair over the joined history, and the ordinal of the bar that it judges
+  look-joined : (di k : ℕ) → Within joined di k → lookAnswerOf (boxAfter b fs) k di ≡ Judged (pairAt k (b .thresholds) (length joined) joined di) (length joined - di + 1)
+  look-joined di k (limits, within) =
+      rw joined-box (look-ordinal b start joined k di (joined-sound .valid (omega (arith, limits, within))) (joined-sound .few) limits ∙ rw (upTo-in (length joined) di (limits .0) within))
 
-  -- and the ordinal of the bar that it judges
-  look-full : (di k : ℕ) → 1 ≤ di → di ≤ farthestLook → di ≤ length joined → k < recognisers
-      → lookAnswerOf (boxAfter b fs) k di ≡ Judged (pairAt k (b .thresholds) (length joined) joined di) (length joined - di + 1)
-  look-full di k one near within known = rw joined-box (look-ordinal b start joined k di (joined-sound .valid (omega arith)) (joined-sound .few) known one near within)
+  look-beyond : validOf (b .thresholds) ≡ true → (di k : ℕ) → InLimits di k → length joined < di → lookAnswerOf (boxAfter b fs) k di ≡ Judged (shortOf k) 0
+  look-beyond valid di k limits beyond =
+      let none = upTo-out (length joined) di (inr beyond) in
+      rw joined-box (look-ordinal b start joined k di valid (joined-sound .few) limits ∙ rw (none, no-bar k (b .thresholds) (length joined) joined di (limits .2) none))
 
   -- that bar, and its place
   judged-bar : (di : ℕ) → 1 ≤ di → di ≤ length joined → barWith joined (length joined - di + 1) ≡ backOf joined di
@@ -118,23 +119,25 @@ module _ (b : BarBox) (start : NoBars b) (fs : List Feed) where
         -- "The final box has the fresh box's thresholds; its N is the history's count; its places hold the history's newest 64 bars as a feed
         -- lays them."
         final-box = whole-box;
-        -- "An offset is within the history if it is at least 1 and at most the history's count; a look at it judges the bar that many from
-        -- the history's end." So it gives that bar's printed pair, of all but 12
-        look-printed = λ di k one near within known other. rw (look-joined di k one near within known) (printed-pair di k one within known other);
-        -- "In a look, 12's pair over the whole history takes the history's count for len."
-        look-whole = look-joined;
         -- 02: "Each bar's ordinal is written in the record that the box keeps."
         ordinals = kept-place;
-        -- "A look also hands back the judged bar's ordinal, N − di + 1,"
-        look-in-full = look-full;
-        look-judges = λ di k one near within known. rw (look-full di k one near within known) (judged-bar di one within);
-        look-kept = λ di k one near within known. rw (look-full di k one near within known) (judged-place di one near within);
-        look-row = λ di k one near within known other.
+        -- "In a look, 12's pair over the whole history takes the history's count for len." 02: "A look also hands back the judged bar's ordinal,
+        -- N − di + 1,"
+        look-whole = look-joined;
+        -- "a look at it judges the bar that many from the history's end"
+        look-judges = λ di k w. rw (look-joined di k w) (judged-bar di (w .0 .0) (w .1));
+        look-kept = λ di k w. rw (look-joined di k w) (judged-place di (w .0 .0) (w .0 .1) (w .1));
+        look-printed = λ di k w other.
             let back : length h - di + 1 - 1 ≡ length h - di = omega arith in
-            rw (look-full di k one near within known, back) (printed-pair di k one within known other);
+            rw (look-joined di k w, back) (printed-pair di k (w .0 .0) (w .1) (w .0 .2) other);
         -- "or 0 where there is none"
-        look-beyond = λ di k beyond. rw joined-box (look-beyond b start h k di beyond);
+        look-none = look-beyond;
       }
+
+-- the same joined history in other feeds
+same-cuts : (b : BarBox) → NoBars b → (fs gs : List Feed) → historyAfter (b .thresholds) [] fs ≡ historyAfter (b .thresholds) [] gs
+    → (boxAfter b fs ≡ boxAfter b gs) × (joinedRows b fs ≡ joinedRows b gs)
+same-cuts b start fs gs same = (rw (joined-box b start fs, joined-box b start gs, same), rw (joined-rows b start fs, joined-rows b start gs, same))
 
 -- ---- the box that making gives
 
@@ -170,4 +173,4 @@ zeros-after t fs =
 -- ---- demand 3, "said of the whole list at once"
 
 pub demand-3 : Demand3
-demand-3 = record { holds = holds-after; fresh = made; zeros-left = zeros-after }
+demand-3 = record { holds = holds-after; cuts = same-cuts; fresh = made; zeros-left = zeros-after }

@@ -1,68 +1,42 @@
 -- A look at the box that a history left: it gives the pair over the whole history, which for every recogniser but 12 is the pair over the
 -- history up to the judged bar. Assumes nothing.
-use Prim.Native.Nat.{ℕ, _-_, _+_, _≤_, _<_}
-use mathlib.Core.Path.{_≡_, refl}
+use Prim.Native.Nat.{ℕ, _≤_}
+use mathlib.Core.Path.{_≡_}
 use mathlib.Core.Bool.{true}
 use mathlib.Core.List.{List}
-use mathlib.Core.Logic.{inr}
 use native.Mathlib.Omega.{arith}
 use borrow.Author.Tests.{ne-eqb, lt-leb, le-ltb}
 use lib.ListN.{length, take}
 use lib.Seq.{take-length}
 use Rattle.measures.specs.Bar.{Bar}
 use Rattle.measures.specs.Window.{upTo, windowOf}
-use Rattle.measures.proofs.WindowLaws.{upTo-one, upTo-in, upTo-out}
+use Rattle.measures.proofs.WindowLaws.{upTo-one}
 use Rattle.recognisers.specs.Threshold.{Thresholds, validOf}
 use Rattle.recognisers.specs.declared.call.Verdict.the-variants.{Accepted}
-use Rattle.recognisers.specs.declared.call.Answer.{Answer}
-use Rattle.recognisers.specs.declared.call.Answer.the-variants.{Labels, Refused}
 use Rattle.recognisers.specs.declared.call.LookAnswer.the-variants.{Judged}
 use Rattle.recognisers.specs.Number.{recognisers, gated, reachBars, mostBars, farthestLook}
 use Rattle.recognisers.specs.Table.{pairAt}
-use Rattle.recognisers.specs.Refusal.{firstTrue, ordinalIn}
+use Rattle.recognisers.specs.Refusal.{firstTrue}
 use Rattle.recognisers.proofs.Reach as reach
 use Rattle.recognisers.proofs.TableLaws.{judge-gateless}
 use Rattle.bar_box.specs.declared.boxes.BarBox.{BarBox}
-use Rattle.bar_box.specs.Box.{takenIn, lookVerdict, lookOf, withOrdinal, lookAnswerOf}
-use Rattle.bar_box.specs.History.{NoBars}
+use Rattle.bar_box.specs.Box.{takenIn, lookVerdict, lookOf, lookAnswerOf}
+use Rattle.bar_box.specs.History.{InLimits, NoBars}
 use Rattle.bar_box.proofs.FeedSteps.{count-after, kept-after}
 
 -- a look of which none of refusals 1, 2, 3, 5 and 7 is true
-look-accepted : (k di : ℕ) (t : Thresholds) (n : ℕ) → k < recognisers → 1 ≤ di → validOf t ≡ true → n ≤ mostBars → di ≤ farthestLook → lookVerdict k di t n ≡ Accepted
+look-accepted : (k di : ℕ) (t : Thresholds) (n : ℕ) → validOf t ≡ true → n ≤ mostBars → InLimits di k → lookVerdict k di t n ≡ Accepted
 unfolding lookVerdict firstTrue
-look-accepted k di t n known one valid few near =
+look-accepted k di t n valid few (one, near, known) =
     simp (lt-leb recognisers k known, ne-eqb di 0 (λ e. omega arith), valid, le-ltb mostBars n few, le-ltb farthestLook di near)
 
--- the pair over the bars that the box keeps is the pair over the whole history, of 12 too
-pub look-back : (b : BarBox) → NoBars b → (h : List Bar) (k di : ℕ) → validOf (b .thresholds) ≡ true → length h ≤ mostBars → k < recognisers → 1 ≤ di → di ≤ farthestLook
-    → lookOf (takenIn b h) k di ≡ Labels (pairAt k (b .thresholds) (length h) h di)
-unfolding lookOf
-look-back b start h k di valid few known one near =
+-- within its limits it gives the pair over the whole history, of 12 too, and the number of bars up to the judged one as its ordinal
+pub look-ordinal : (b : BarBox) → NoBars b → (h : List Bar) (k di : ℕ) → validOf (b .thresholds) ≡ true → length h ≤ mostBars → InLimits di k
+    → lookAnswerOf (takenIn b h) k di ≡ Judged (pairAt k (b .thresholds) (length h) h di) (upTo (length h) di)
+unfolding lookAnswerOf lookOf
+look-ordinal b start h k di valid few limits =
     let t = b .thresholds in
-    rw (kept-after b start h, count-after b start h, look-accepted k di t (length h) known one valid few near, reach.kept k t (length h) h di near)
-
--- and the ordinal is that of the judged bar
-pub look-ordinal : (b : BarBox) → NoBars b → (h : List Bar) (k di : ℕ) → validOf (b .thresholds) ≡ true → length h ≤ mostBars → k < recognisers → 1 ≤ di → di ≤ farthestLook
-    → di ≤ length h → lookAnswerOf (takenIn b h) k di ≡ Judged (pairAt k (b .thresholds) (length h) h di) (length h - di + 1)
-unfolding lookAnswerOf
-look-ordinal b start h k di valid few known one near within = rw (look-back b start h k di valid few known one near, count-after b start h, upTo-in (length h) di one within)
-
--- an answer without a judged bar has the ordinal 0
-no-ordinal : (a : Answer) → ordinalIn (withOrdinal a 0) ≡ 0
-no-ordinal (Labels pair) = refl
-no-ordinal (Refused r) = refl
-
--- beyond the history there is none
-pub look-beyond : (b : BarBox) → NoBars b → (h : List Bar) (k di : ℕ) → length h < di → ordinalIn (lookAnswerOf (takenIn b h) k di) ≡ 0
-unfolding lookAnswerOf
-look-beyond b start h k di beyond =
-    let none : upTo (takenIn b h .count) di ≡ 0 = rw (count-after b start h) (upTo-out (length h) di (inr beyond)) in
-    rw none (no-ordinal (lookOf (takenIn b h) k di))
-
-pub look-none : (b : BarBox) → NoBars b → (h : List Bar) (k di : ℕ) → validOf (b .thresholds) ≡ true → length h ≤ mostBars → k < recognisers → 1 ≤ di → di ≤ farthestLook
-    → length h < di → lookAnswerOf (takenIn b h) k di ≡ Judged (pairAt k (b .thresholds) (length h) h di) 0
-unfolding lookAnswerOf
-look-none b start h k di valid few known one near beyond = rw (look-back b start h k di valid few known one near, count-after b start h, upTo-out (length h) di (inr beyond))
+    rw (kept-after b start h, count-after b start h, look-accepted k di t (length h) valid few limits, reach.kept k t (length h) h di (limits .1))
 
 -- the p bars up to the judged one are a history in which it is the newest
 module _ (h : List Bar) (di p : ℕ) (here : upTo (length h) di ≡ p) where

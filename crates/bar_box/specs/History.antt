@@ -11,16 +11,15 @@ use Rattle.measures.specs.Window.{newest, backOf}
 use Rattle.recognisers.specs.Threshold.{Thresholds, standardSet, validOf}
 use Rattle.recognisers.specs.declared.call.Verdict.{Verdict}
 use Rattle.recognisers.specs.declared.call.Verdict.the-variants.{Accepted}
-use Rattle.recognisers.specs.declared.call.Answer.the-variants.{Labels}
 use Rattle.recognisers.specs.declared.call.LookAnswer.the-variants.{Judged}
 use Rattle.recognisers.specs.Number.{recognisers, rowBytes, gated, places, farthestLook}
-use Rattle.recognisers.specs.Table.{pairAt, codesOf}
+use Rattle.recognisers.specs.Table.{pairAt, shortOf, codesOf}
 use Rattle.recognisers.specs.Refusal.{codesIn, answerIn, ordinalIn, leaves}
 use Rattle.bar_box.specs.declared.boxes.KeptBar.{KeptBar}
 use Rattle.bar_box.specs.declared.boxes.BarBox.{BarBox}
 use Rattle.bar_box.specs.declared.boxes.Outcome.{Outcome}
 use Rattle.bar_box.specs.Calls.{after, each, joined}
-use Rattle.bar_box.specs.Box.{keptBar, numbered, emptyPlace, madeOf, feedVerdict, fedOf, sheetOf, lookOf, lookAnswerOf}
+use Rattle.bar_box.specs.Box.{keptBar, numbered, emptyPlace, madeOf, feedVerdict, fedOf, sheetOf, lookAnswerOf}
 
 -- what a feed is lent
 pub record Feed : Type 0 where
@@ -81,6 +80,13 @@ barWith h ordinal = getD h (ordinal - 1) noBar
 abbrev pub inPlace : BarBox → ℕ → KeptBar
 inPlace b i = getD (b .bars) (i - 1) emptyPlace
 
+-- a look within its limits: an offset from 1 to 43, and a known recogniser; and one at an offset within the history
+abbrev pub InLimits : ℕ → ℕ → Type 0
+InLimits di k = (1 ≤ di) × (di ≤ farthestLook) × (k < recognisers)
+
+abbrev pub Within : List Bar → ℕ → ℕ → Type 0
+Within h di k = InLimits di k × (di ≤ length h)
+
 -- ---- what holds after a list of feeds fs to a box b without bars; h is the joined history, and sheet one that is long enough for it
 
 pub record Holds (b : BarBox) (fs : List Feed) (h : List Bar) (sheet : List ℕ) : Type 0 where
@@ -98,28 +104,22 @@ pub record Holds (b : BarBox) (fs : List Feed) (h : List Bar) (sheet : List ℕ)
   -- (d) the final box has the fresh box's thresholds; its N is the history's count; its places hold the history's newest 64 bars with their
   -- ordinals, and what they held where there are fewer
   pub final-box : boxAfter b fs ≡ record { thresholds = b .thresholds; count = length h; bars = newest places (numbered 0 h) ++ drop (length h) (b .bars) }
-  -- (e) a look at an offset from 1 to 43 within the history gives the printed pair of the bar that it judges, for every recogniser but 12
-  pub look-printed : (di k : ℕ) → 1 ≤ di → di ≤ farthestLook → di ≤ length h → k < recognisers → (k ≡ gated → ⊥)
-      → codesIn (lookOf (boxAfter b fs) k di) ≡ printed (joinedRows b fs) (length h - di) k
-  -- (f) it gives, for 12 as for all, the pair of the rule at that offset over the whole history, with the history's count for len
-  pub look-whole : (di k : ℕ) → 1 ≤ di → di ≤ farthestLook → di ≤ length h → k < recognisers
-      → lookOf (boxAfter b fs) k di ≡ Labels (pairAt k (b .thresholds) (length h) h di)
-  -- (g) the i-th kept place, from 1, holds the bar with ordinal N − kept + i
+  -- (e) the i-th kept place, from 1, holds the bar with ordinal N − kept + i
   pub ordinals : (i : ℕ) → 1 ≤ i → i ≤ min (length h) places
       → let ordinal = length h - min (length h) places + i in inPlace (boxAfter b fs) i ≡ keptBar (barWith h ordinal) ordinal
-  -- (h) what a look at 1 to 43 within the history hands back in full: the ordinal is that of the bar that it judges, the di-th from the end
-  pub look-in-full : (di k : ℕ) → 1 ≤ di → di ≤ farthestLook → di ≤ length h → k < recognisers
-      → lookAnswerOf (boxAfter b fs) k di ≡ Judged (pairAt k (b .thresholds) (length h) h di) (length h - di + 1)
-  -- (i) that bar is the one with this ordinal in the history
-  pub look-judges : (di k : ℕ) → 1 ≤ di → di ≤ farthestLook → di ≤ length h → k < recognisers → barWith h (ordinalIn (lookAnswerOf (boxAfter b fs) k di)) ≡ backOf h di
-  -- (j) the box keeps it with this ordinal, in the place that is the di-th from the last kept one
-  pub look-kept : (di k : ℕ) → 1 ≤ di → di ≤ farthestLook → di ≤ length h → k < recognisers
+  -- (f) a look at an offset from 1 to 43 within the history gives, of 12 as of all, the pair of the rule at that offset over the whole history, with
+  -- the history's count for len, and the judged bar's ordinal
+  pub look-whole : (di k : ℕ) → Within h di k → lookAnswerOf (boxAfter b fs) k di ≡ Judged (pairAt k (b .thresholds) (length h) h di) (length h - di + 1)
+  -- (g) the bar with that ordinal in the history is the di-th from its end, and the box keeps it with that ordinal, in the place that is the di-th
+  -- from the last kept one
+  pub look-judges : (di k : ℕ) → Within h di k → barWith h (ordinalIn (lookAnswerOf (boxAfter b fs) k di)) ≡ backOf h di
+  pub look-kept : (di k : ℕ) → Within h di k
       → let ordinal = ordinalIn (lookAnswerOf (boxAfter b fs) k di) in inPlace (boxAfter b fs) (min (length h) places - di + 1) ≡ keptBar (backOf h di) ordinal
-  -- (k) its row was printed as that many-th: the pair is the printed one there, for every recogniser but 12
-  pub look-row : (di k : ℕ) → 1 ≤ di → di ≤ farthestLook → di ≤ length h → k < recognisers → (k ≡ gated → ⊥)
+  -- (h) its row was printed as that many-th: for every recogniser but 12 the pair is the printed one there
+  pub look-printed : (di k : ℕ) → Within h di k → (k ≡ gated → ⊥)
       → let seen = lookAnswerOf (boxAfter b fs) k di in codesIn (answerIn seen) ≡ printed (joinedRows b fs) (ordinalIn seen - 1) k
-  -- (l) an offset beyond the history has no judged bar, and the ordinal is 0
-  pub look-beyond : (di k : ℕ) → length h < di → ordinalIn (lookAnswerOf (boxAfter b fs) k di) ≡ 0
+  -- (i) within a look's limits and beyond the history there is no judged bar: the short pair, and the ordinal 0
+  pub look-none : validOf (b .thresholds) ≡ true → (di k : ℕ) → InLimits di k → length h < di → lookAnswerOf (boxAfter b fs) k di ≡ Judged (shortOf k) 0
 
 -- a box without bars, as made or as a caller filled it: N is 0, whatever its thresholds and its 64 places hold
 pub record NoBars (b : BarBox) : Type 0 where
@@ -142,6 +142,9 @@ ZerosLeft b fs h = boxAfter b fs .bars ≡ newest places (numbered 0 h) ++ repli
 pub record Demand3 : Type 0 where
   pub holds : (b : BarBox) → NoBars b → (fs : List Feed) (sheet : List ℕ)
       → let h = historyAfter (b .thresholds) [] fs in rowBytes * length h ≤ length sheet → Holds b fs h sheet
+  -- two lists of feeds with the same joined history leave the same box and the same rows
+  pub cuts : (b : BarBox) → NoBars b → (fs gs : List Feed) → historyAfter (b .thresholds) [] fs ≡ historyAfter (b .thresholds) [] gs
+      → (boxAfter b fs ≡ boxAfter b gs) × (joinedRows b fs ≡ joinedRows b gs)
   pub fresh : (t : Thresholds) → Fresh t (madeOf t .after)
   pub zeros-left : (t : Thresholds) (fs : List Feed)
       → let b = madeOf t .after in ZerosLeft b fs (historyAfter (b .thresholds) [] fs)

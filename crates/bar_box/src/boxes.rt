@@ -1,5 +1,7 @@
 // The box and its making.
 ghost use mathlib.Core.Path.{_≡_};
+ghost use mathlib.Core.List.{[], _∷_};
+ghost use Rattle.recognisers.specs.Refusal.{badThreshold, firstTrue, verdictNumber};
 ghost use Rattle.bar_box.specs.Box.{freshBox, madeOf};
 use measures::Bar;
 use recognisers::Thresholds;
@@ -48,7 +50,8 @@ fn fresh(thresholds: Thresholds) -> BarBox
 
 // A fresh box with these thresholds; if they are refused, one with the standard set.
 pub fn make(t: Thresholds) -> Outcome
-    ensures { λ r. ⌜ r ≡ madeOf t ⌝ }
+    ensures answer { λ r. ⌜ r ≡ madeOf t ⌝ }
+    ensures number { λ r. ⌜ verdictNumber (r .verdict) ≡ verdictNumber (firstTrue (badThreshold t ∷ [])) ⌝ }
 {
     let valid = t.is_valid();
     if valid {

@@ -6,7 +6,7 @@ ghost use lib.Dec.{eqb};
 ghost use lib.ListN.{length, take};
 ghost use Rattle.measures.specs.Bar.{barsOf, overlay};
 ghost use Rattle.recognisers.specs.Number.{rowBytes};
-ghost use Rattle.recognisers.specs.Refusal.{firstTrue, leaves};
+ghost use Rattle.recognisers.specs.Refusal.{verdictNumber, firstTrue, leaves};
 ghost use Rattle.bar_box.specs.Sheet.{rowsOf, before};
 ghost use Rattle.bar_box.specs.Box.{kept, takenIn, feedVerdict, checkedTried, fedOf, sheetOf};
 use crate::boxes::BarBox;
@@ -150,7 +150,9 @@ pub fn taken(v: Verdict, prices: usize) -> usize
 
 // Takes the lent bars in and writes a row for each, or refuses and leaves box and sheet as they were: a refused feed takes no bar.
 pub fn feed(b: BarBox, prices: &[f64], sheet: &mut [u8]) -> Outcome
-    ensures { λ r. ⌜ (r ≡ fedOf b (now (prices .entry)) (length (now (sheet .entry)))) × (now (sheet .exit) ≡ sheetOf b (now (prices .entry)) (now (sheet .entry))) ⌝ }
+    ensures answer { λ r. ⌜ r ≡ fedOf b (now (prices .entry)) (length (now (sheet .entry))) ⌝ }
+    ensures sheet { λ _. ⌜ now (sheet .exit) ≡ sheetOf b (now (prices .entry)) (now (sheet .entry)) ⌝ }
+    ensures number { λ r. ⌜ verdictNumber (r .verdict) ≡ verdictNumber (feedVerdict (b .thresholds) (b .count) (length (now (prices .entry))) (length (now (sheet .entry)))) ⌝ }
 {
     let verdict = feed_verdict(b.thresholds, b.count, prices.len(), sheet.len());
     let end = taken(verdict, prices.len());

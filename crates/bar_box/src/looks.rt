@@ -1,9 +1,11 @@
 // A look.
 ghost use mathlib.Core.Path.{_≡_};
 ghost use lib.ListN.{take};
-ghost use Rattle.recognisers.specs.Table.{pairAt};
+ghost use mathlib.Core.List.{[], _∷_};
+ghost use Rattle.recognisers.specs.Table.{pairAt, codesOf};
+ghost use Rattle.recognisers.specs.Refusal.{verdictNumber, leaves, refusalIn, codesIn, answerIn, ordinalIn};
 ghost use Rattle.measures.specs.Window.{upTo};
-ghost use Rattle.bar_box.specs.Box.{barsIn, lookVerdict, lookAnswerOf};
+ghost use Rattle.bar_box.specs.Box.{barsIn, kept, lookVerdict, lookAnswerOf};
 use crate::boxes::BarBox;
 use crate::boxes::KeptBar;
 use measures::least;
@@ -65,7 +67,10 @@ fn judged_ordinal(n: u32, di: u32) -> u32
 
 // The pair of a recogniser at an offset from the newest bar, and the judged bar's ordinal; the box stays.
 pub fn look(b: BarBox, k: u32, di: u32) -> LookAnswer
-    ensures { λ r. ⌜ r ≡ lookAnswerOf b k di ⌝ }
+    ensures answer { λ r. ⌜ r ≡ lookAnswerOf b k di ⌝ }
+    ensures number { λ r. ⌜ refusalIn (answerIn r) ≡ verdictNumber (lookVerdict k di (b .thresholds) (b .count)) ⌝ }
+    ensures values { λ r. ⌜ (codesIn (answerIn r) ≡ leaves (lookVerdict k di (b .thresholds) (b .count)) [] (codesOf (pairAt k (b .thresholds) (b .count) (kept b) di ∷ [])))
+        × (ordinalIn r ≡ leaves (lookVerdict k di (b .thresholds) (b .count)) 0 (upTo (b .count) di)) ⌝ }
 {
     match look_verdict(k, di, b.thresholds, b.count) {
         Verdict::Denied(why) => LookAnswer::Refused(why),

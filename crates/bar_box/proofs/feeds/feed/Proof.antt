@@ -44,7 +44,7 @@ returns c =
     let box : took .take-in .result ≡ leaves v b (takenIn b (barsOf ps)) = took .take-in .ensures .0 ∙ rw (end .taken .ensures) (lent-box v b full ps) in
     let rows : took .take-in .last .1 .1 .0 ≡ leaves v sheet (overlay sheet 0 (rowsOf (b .thresholds) (b .count) (kept b) (barsOf ps))) =
     took .take-in .ensures .1 ∙ rw (end .taken .ensures) (lent-sheet v (b .thresholds) (b .count) (kept b) ps sheet) in
-    (rw (box, told .feed-verdict .ensures), rw (rows, told .feed-verdict .ensures))
+    (rw (box, told .feed-verdict .ensures), (rw (rows, told .feed-verdict .ensures), rw (told .feed-verdict .ensures)))
 
 pub feed-spec : {M : Type 1} → statement M
 feed-spec = tie.close (tie.spec (λ c κs. tt) (λ c κs. tt) slice-aggregate-take-in take-in-requires (λ c. search needs) returns)
