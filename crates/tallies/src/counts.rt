@@ -4,7 +4,7 @@ ghost use mathlib.Core.Path.{_≡_};
 ghost use Prim.Native.Nat.{ℕ, _+_, _*_, _/_, _≤_, _<_};
 ghost use mathlib.Core.Bool.{true};
 ghost use lib.ListN.{length, getD};
-ghost use Rattle.recognisers.specs.Number.{recognisers, labels, rowBytes};
+ghost use Rattle.recognisers.specs.Number.{recognisers, labels, rowBytes, mostBars};
 ghost use Rattle.tallies.specs.Tally.{Shaped, addsUp, countsOf, gainRow, gained, counted};
 ghost use Rattle.tallies.specs.Count.{Known, cells, Counted, Fits};
 use crate::table::TallyRow;
@@ -17,7 +17,7 @@ const CELLS: usize = LABELS * RECOGNISERS;
 
 // Counts the i-th row of a sheet, from 0.
 fn count_row(sheet: &[u8], i: usize, numbers: &mut [u32])
-    requires { ⌜ (Known (now sheet)) × (i < length (now sheet) / rowBytes) × (i < 1000000) × (Counted (now sheet) i (now numbers)) ⌝ }
+    requires { ⌜ (Known (now sheet)) × (i < length (now sheet) / rowBytes) × (i < mostBars) × (Counted (now sheet) i (now numbers)) ⌝ }
     ensures { λ _. ⌜ Counted (now (sheet .entry)) (i + 1) (now (numbers .exit)) ⌝ }
 {
     let mut k = 0usize;
@@ -30,7 +30,7 @@ fn count_row(sheet: &[u8], i: usize, numbers: &mut [u32])
 
 // How many rows of a sheet have each code as v1 of each recogniser.
 fn count_rows(sheet: &[u8]) -> [u32; CELLS]
-    requires { ⌜ (Known (now sheet)) × (length (now sheet) / rowBytes ≤ 1000000) ⌝ }
+    requires { ⌜ (Known (now sheet)) × (length (now sheet) / rowBytes ≤ mostBars) ⌝ }
     ensures { λ r. ⌜ Counted (now (sheet .entry)) (length (now (sheet .entry)) / rowBytes) r ⌝ }
 {
     let n = sheet.len() / ROW_BYTES;
@@ -74,7 +74,7 @@ fn add(tally: [TallyRow; RECOGNISERS], numbers: &[u32]) -> [TallyRow; RECOGNISER
 
 // The table with the rows of a sheet counted, where it counts n bars before them.
 pub(crate) fn count(tally: [TallyRow; RECOGNISERS], n: u32, sheet: &[u8]) -> [TallyRow; RECOGNISERS]
-    requires { ⌜ (Known (now sheet)) × (Shaped tally) × (addsUp n tally ≡ true) × (n + length (now sheet) / rowBytes ≤ 1000000) ⌝ }
+    requires { ⌜ (Known (now sheet)) × (Shaped tally) × (addsUp n tally ≡ true) × (n + length (now sheet) / rowBytes ≤ mostBars) ⌝ }
     ensures { λ r. ⌜ r ≡ counted (now (sheet .entry)) tally ⌝ }
 {
     let numbers = count_rows(sheet);

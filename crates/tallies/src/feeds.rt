@@ -1,7 +1,8 @@
 // A feed with a tally.
 ghost use mathlib.Core.Path.{_≡_};
+ghost use Rattle.recognisers.specs.Refusal.{verdictNumber};
 ghost use Rattle.tallies.specs.Tally.{Shaped};
-ghost use Rattle.tallies.specs.Feed.{lent, tallyVerdict, talliedOf, talliedSheet};
+ghost use Rattle.tallies.specs.Feed.{lent, tallyVerdict, verdictWith, talliedOf, talliedSheet};
 use crate::counts;
 use crate::table;
 use crate::table::TallyRow;
@@ -36,7 +37,8 @@ pub fn tally_verdict(
 
 // Takes the lent bars in, writes a row for each and counts it, or refuses and leaves box, tally and sheet as they were.
 pub fn feed(b: BarBox, tally: [TallyRow; RECOGNISERS], prices: &[f64], sheet: &mut [u8]) -> Tallied
-    ensures { λ r. ⌜ (r ≡ talliedOf b tally (lent (now (prices .entry)) (now (sheet .entry)))) × (now (sheet .exit) ≡ talliedSheet b tally (lent (now (prices .entry)) (now (sheet .entry)))) × (Shaped tally) ⌝ }
+    ensures { λ r. ⌜ (r ≡ talliedOf b tally (lent (now (prices .entry)) (now (sheet .entry)))) × (now (sheet .exit) ≡ talliedSheet b tally (lent (now (prices .entry)) (now (sheet .entry)))) × (Shaped tally)
+        × (verdictNumber (r .verdict) ≡ verdictNumber (verdictWith b tally (lent (now (prices .entry)) (now (sheet .entry))))) ⌝ }
 {
     let t = b.thresholds;
     let n = b.count;

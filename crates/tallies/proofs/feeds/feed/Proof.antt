@@ -82,7 +82,7 @@ count-requires-2 c κs =
     let fed = c .before .before .before .before .before .feed in
     let bars = barsOf (args .prices .now) in
     let rows = rowsOf (args .b .thresholds) (args .b .count) (kept (args .b)) bars in
-    let written : take (rowBytes * c .before .count .result) (fed .last .1 .1 .0) ≡ rows = rw (c .before .count .ensures, fed .ensures .1) (rows-written (args .b) (args .tally) f accepted) in
+    let written : take (rowBytes * c .before .count .result) (fed .last .1 .1 .0) ≡ rows = rw (c .before .count .ensures, fed .ensures .1 .0) (rows-written (args .b) (args .tally) f accepted) in
     let size = length-rows (args .b .thresholds) (args .b .count) (kept (args .b)) bars in (
       rw written (rows-known (args .b .thresholds) (args .b .count) (kept (args .b)) bars),
       call .tally-verdict .ensures .1,
@@ -95,7 +95,7 @@ unfolding talliedOf talliedSheet
 returns c =
     let call = c .before .before .before in
     let denied = sym (call .tally-verdict .ensures .0) ∙ c .before .why .given .1 in
-    (simp denied, simp denied, call .tally-verdict .ensures .1)
+    (simp denied, simp denied, call .tally-verdict .ensures .1, simp denied)
 
 same-length : tie.Need-same-length
 same-length c = search needs
@@ -113,10 +113,10 @@ returns-2 c =
     let fed = c .before .before .before .before .before .before .feed in
     let bars = barsOf (args .prices .now) in
     let rows = rowsOf (args .b .thresholds) (args .b .count) (kept (args .b)) bars in
-    let written : take (rowBytes * c .before .before .count .result) (fed .last .1 .1 .0) ≡ rows = rw (c .before .before .count .ensures, fed .ensures .1) (rows-written (args .b) (args .tally) f accepted) in
+    let written : take (rowBytes * c .before .before .count .result) (fed .last .1 .1 .0) ≡ rows = rw (c .before .before .count .ensures, fed .ensures .1 .0) (rows-written (args .b) (args .tally) f accepted) in
     let after = ap (λ (o : Outcome). o .after) (fed .ensures .0) ∙ fed-after (args .b) (args .tally) f accepted in
     let tally : c .count2 .result ≡ counted rows (args .tally) = c .count2 .ensures ∙ rw written in
-    (rw (tallied-accepted (args .b) (args .tally) f accepted, after, tally), rw accepted (fed .ensures .1), call .tally-verdict .ensures .1)
+    (rw (tallied-accepted (args .b) (args .tally) f accepted, after, tally), rw accepted (fed .ensures .1 .0), call .tally-verdict .ensures .1, rw accepted)
 
 pub feed-spec : {M : Type 1} → statement M
 feed-spec =
