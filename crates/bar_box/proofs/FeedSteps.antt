@@ -14,8 +14,7 @@ use Rattle.measures.specs.Bar.{Bar, barsOf, overlay}
 use Rattle.measures.specs.Window.{newest}
 use Rattle.measures.proofs.RunLaws.{length-bars}
 use Rattle.recognisers.specs.Threshold.{Thresholds, validOf}
-use Rattle.recognisers.specs.declared.call.Verdict.{Verdict}
-use Rattle.recognisers.specs.declared.call.Verdict.the-variants.{Accepted, Denied}
+use Rattle.recognisers.specs.declared.call.Verdict.{Verdict, the-variants.Accepted, the-variants.Denied}
 use Rattle.recognisers.specs.Number.{rowBytes, mostBars, places}
 use Rattle.recognisers.specs.Refusal.{Tried, firstTrue, leaves}
 use Rattle.bar_box.specs.declared.boxes.BarBox.{BarBox}

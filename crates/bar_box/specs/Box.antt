@@ -9,10 +9,8 @@ use Rattle.measures.specs.Bar.{Bar, barOf, barsOf, overlay}
 use Rattle.measures.specs.Price.{zero}
 use Rattle.measures.specs.Window.{upTo, newest}
 use Rattle.recognisers.specs.Threshold.{Thresholds, standardSet}
-use Rattle.recognisers.specs.declared.call.Verdict.{Verdict}
-use Rattle.recognisers.specs.declared.call.Verdict.the-variants.{Accepted, Denied}
-use Rattle.recognisers.specs.declared.call.Answer.{Answer}
-use Rattle.recognisers.specs.declared.call.Answer.the-variants.{Labels, Refused}
+use Rattle.recognisers.specs.declared.call.Verdict.{Verdict, the-variants.Accepted, the-variants.Denied}
+use Rattle.recognisers.specs.declared.call.Answer.{Answer, the-variants.Labels, the-variants.Refused}
 use Rattle.recognisers.specs.declared.call.LookAnswer.{LookAnswer}
 use Rattle.recognisers.specs.declared.call.LookAnswer.the-variants as look
 use Rattle.recognisers.specs.Number.{places}

@@ -9,8 +9,7 @@ use lib.Ieee.{Float}
 use Rattle.measures.specs.Bar.{Bar, noBar, barsOf, pricesOf}
 use Rattle.measures.specs.Window.{newest, backOf}
 use Rattle.recognisers.specs.Threshold.{Thresholds, standardSet, validOf}
-use Rattle.recognisers.specs.declared.call.Verdict.{Verdict}
-use Rattle.recognisers.specs.declared.call.Verdict.the-variants.{Accepted}
+use Rattle.recognisers.specs.declared.call.Verdict.{Verdict, the-variants.Accepted}
 use Rattle.recognisers.specs.declared.call.LookAnswer.the-variants.{Judged}
 use Rattle.recognisers.specs.Number.{recognisers, rowBytes, gated, places, farthestLook}
 use Rattle.recognisers.specs.Table.{pairAt, shortOf, codesOf}

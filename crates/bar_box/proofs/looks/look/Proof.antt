@@ -6,11 +6,9 @@ use Rattle.measures.specs.Window.{upTo}
 use Rattle.recognisers.specs.Label.{Pair}
 use Rattle.recognisers.specs.Table.{pairAt, codesOf}
 use Rattle.recognisers.specs.Refusal.{verdictNumber, leaves, answerTo, refusalIn, codesIn, answerIn, ordinalIn}
-use Rattle.recognisers.specs.declared.call.Verdict.{Verdict}
-use Rattle.recognisers.specs.declared.call.Verdict.the-variants.{Accepted, Denied}
+use Rattle.recognisers.specs.declared.call.Verdict.{Verdict, the-variants.Accepted, the-variants.Denied}
 use Rattle.recognisers.specs.declared.call.Answer.the-variants.{Labels}
-use Rattle.recognisers.specs.declared.call.LookAnswer.{LookAnswer}
-use Rattle.recognisers.specs.declared.call.LookAnswer.the-variants.{Judged, Refused}
+use Rattle.recognisers.specs.declared.call.LookAnswer.{LookAnswer, the-variants.Judged, the-variants.Refused}
 use Rattle.bar_box.specs.declared.boxes.BarBox.{BarBox}
 use borrow.Author.Needs.{needs}
 use Rattle.bar_box.specs.Box.{kept, lookVerdict, lookOf, withOrdinal, lookAnswerOf}
