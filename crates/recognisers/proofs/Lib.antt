@@ -3,3 +3,4 @@ pub mod Reach
 pub mod TableLaws
 pub mod ByteLaws
 pub mod CodeLaws
+pub mod SameDojis

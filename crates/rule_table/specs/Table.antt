@@ -4,7 +4,7 @@ use mathlib.Core.Bool.{Bool, cond, _&&_}
 use mathlib.Core.List.{List, [], _∷_, map}
 use lib.Dec.{ltb, leb, eqb}
 use lib.ListN.{length, getD, take}
-use Rattle.measures.specs.Bar.{Bar}
+use Rattle.measures.specs.Bar.{Bar, dojiAbove}
 use Rattle.measures.specs.declared.folds.Column.the-variants.{Close}
 use Rattle.measures.specs.declared.folds.Extremes.{Extremes}
 use Rattle.measures.specs.Window.{upTo, newest, windowOf, backOf}
@@ -12,11 +12,11 @@ use Rattle.measures.specs.Fold.{columnOf, highestOf}
 use Rattle.rule_types.specs.declared.label.Pair.{Pair}
 use Rattle.rule_table.specs.declared.thresholds.Thresholds.{Thresholds}
 use Rattle.rule_types.specs.Label.{codeOf, pairA, pairB}
-use Rattle.rule_types.specs.Number.{recognisers, gated, reachBars, quarterBars, gateEnd}
+use Rattle.rule_types.specs.Number.{recognisers, gated, reachBars, quarterBars, gateEnd, wholeOf}
 use Rattle.quarter_rules.specs.declared.Quarter.{Quarter}
 use Rattle.quarter_rules.specs.QuarterRule.{quarterIn, quarterExtremes, sanXingXian, tenMo, fenShouXian, zhuHuoXian, fanJiXian}
 use Rattle.bar_rules.specs.BarRule.{tenCloses, wuYunGaiDing, ciTou, sanFaV20221115, yunXian, pingTou, twoCrow, gateShut, threeCrow, gapYinYang}
-use Rattle.star_rules.specs.StarRule.{xingXian, szx, sanSzx}
+use Rattle.star_rules.specs.StarRule.{xingXian, szxBy, szx, sanSzxBy, sanSzx}
 use Rattle.growing_rules.specs.GrowingRule.{sanFaV20221118, taXing}
 
 -- all that the rules see of a window that ends with the judged bar: b1, the judged bar, to b6; Lmax and Lmin of the window of 20 bars; the ten
@@ -105,6 +105,16 @@ allUpTo history di = take (upTo (length history) di) history
 -- the pair at offset di of a history of len bars, of which at least the newest are given: the rules over all bars up to the judged one
 unfoldable pub pairAt : ℕ → Thresholds → ℕ → List Bar → ℕ → Pair
 pairAt k t len history di = judgeOf k t len (upTo len di) (allUpTo history di) (windowOf history gateEnd quarterBars)
+
+-- 13 and 14 there as 01 has them, whose th counts units
+abbrev pub szxIn01 : ℕ → ℕ → List Bar → ℕ → Pair
+szxIn01 th len history di =
+    let w = allUpTo history di in cond (ltb (upTo len di) 11) pairA (szxBy (dojiAbove (wholeOf th)) (backOf w 1) (backOf w 2))
+
+abbrev pub sanSzxIn01 : ℕ → ℕ → List Bar → ℕ → Pair
+sanSzxIn01 th len history di =
+    let w = allUpTo history di in
+    cond (ltb (upTo len di) 8) pairB (sanSzxBy (dojiAbove (wholeOf th)) (backOf w 1) (backOf w 2) (backOf w 3) (backOf w 4) (backOf w 5))
 
 -- ---- all eighteen at once
 
