@@ -13,7 +13,7 @@ ghost use Rattle.recognisers.specs.declared.call.Answer.the-variants.{Labels};
 ghost use Rattle.recognisers.specs.Number.{reachBars};
 ghost use Rattle.recognisers.specs.Threshold.{thresholdsOf};
 ghost use Rattle.recognisers.specs.Table.{judgeOf};
-ghost use Rattle.recognisers.specs.Refusal.{plainVerdict, answerTo, plainAnswer};
+ghost use Rattle.recognisers.specs.Refusal.{plainVerdict, answerTo, plainAnswer, plainNumber, plainCodes, refusalIn, codesIn};
 ghost use Rattle.recognisers.specs.Export.{resultOf};
 ghost use Rattle.records.specs.Held.{barsIn};
 use measures::Bar;
@@ -116,7 +116,8 @@ fn answer(k: u32, di: u32, t: Thresholds, len: usize, w: Window, gate: Window) -
 
 // The plain call: as recognisers::recognise, which is lent prices. Records are whole bars, so that refusal 4 can't arise.
 pub fn recognise_bars(k: u32, di: u32, t: Thresholds, bars: &[Bar]) -> Answer
-    ensures { λ r. ⌜ r ≡ plainAnswer k di t true (now (bars .entry)) ⌝ }
+    ensures { λ r. ⌜ (r ≡ plainAnswer k di t true (now (bars .entry)))
+        × ((refusalIn r ≡ plainNumber k di t true (now (bars .entry))) × (codesIn r ≡ plainCodes k di t true (now (bars .entry)))) ⌝ }
 {
     let w = window_of(bars, di as usize, counts::REACH_BARS);
     let gate = window_of(bars, counts::GATE_END, export::gate_bars(k));
