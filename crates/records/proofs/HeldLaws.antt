@@ -23,7 +23,7 @@ use Rattle.recognisers.specs.Refusal.{answerTo, plainVerdict, plainAnswer}
 use Rattle.recognisers.proofs.TableLaws.{gate-enough}
 use Rattle.records.specs.declared.Window.{Window}
 use Rattle.records.specs.declared.Span.{Span}
-use Rattle.records.specs.Held.{barsIn}
+use Rattle.records.specs.Held.{windowBars}
 
 -- ---- one bar more
 
@@ -56,8 +56,8 @@ withBar w b =
     let at = 4 * w .count in
     record { prices = set (set (set (set (w .prices) at (b .«open»)) (at + 1) (b .close)) (at + 2) (b .high)) (at + 3) (b .low); count = w .count + 1 }
 
-pub bar-more : (w : Window) (b : Bar) → 4 * w .count + 4 ≤ length (w .prices) → barsIn (withBar w b) ≡ barsIn w ++ b ∷ []
-unfolding barsIn
+pub bar-more : (w : Window) (b : Bar) → 4 * w .count + 4 ≤ length (w .prices) → windowBars (withBar w b) ≡ windowBars w ++ b ∷ []
+unfolding windowBars
 bar-more w b fits = bars-stored (w .count) (w .prices) (b .«open») (b .close) (b .high) (b .low) fits
 
 -- ---- what is left to gather, of the bars before a place
@@ -65,33 +65,33 @@ bar-more w b fits = bars-stored (w .count) (w .prices) (b .«open») (b .close) 
 module _ (bars : List Bar) (to : ℕ) where
   -- the window has n bars, and these, once the bars from j on are gathered
   abbrev pub Left : Window → ℕ → ℕ → List Bar → Type 0
-  Left w j n all = (w .count + (to - j) ≡ n) × (barsIn w ++ take (to - j) (drop j bars) ≡ all)
+  Left w j n all = (w .count + (to - j) ≡ n) × (windowBars w ++ take (to - j) (drop j bars) ≡ all)
 
-  pub left-more : (w next : Window) (j n : ℕ) (all : List Bar) → j < to → to ≤ length bars → (next .count ≡ w .count + 1) × (barsIn next ≡ barsIn w ++ getD bars j noBar ∷ [])
+  pub left-more : (w next : Window) (j n : ℕ) (all : List Bar) → j < to → to ≤ length bars → (next .count ≡ w .count + 1) × (windowBars next ≡ windowBars w ++ getD bars j noBar ∷ [])
       → Left w j n all → Left next (j + 1) n all
   left-more w next j n all less inside e left =
       let one : to - j ≡ suc (to - (j + 1)) = omega arith in
-      (omega (arith, e .0, left .0), rw (e .1) (append-assoc (barsIn w) (getD bars j noBar ∷ []) _ ∙ rw (one, from-bar bars j (omega arith)) at (left .1)))
+      (omega (arith, e .0, left .0), rw (e .1) (append-assoc (windowBars w) (getD bars j noBar ∷ []) _ ∙ rw (one, from-bar bars j (omega arith)) at (left .1)))
 
-  pub left-none : (w : Window) (j n : ℕ) (all : List Bar) → to ≤ j → Left w j n all → (w .count ≡ n) × (barsIn w ≡ all)
+  pub left-none : (w : Window) (j n : ℕ) (all : List Bar) → to ≤ j → Left w j n all → (w .count ≡ n) × (windowBars w ≡ all)
   left-none w j n all past left =
       let none : to - j ≡ 0 = omega arith in
-      (omega (arith, left .0), sym (append-nil (barsIn w)) ∙ rw none at (left .1))
+      (omega (arith, left .0), sym (append-nil (windowBars w)) ∙ rw none at (left .1))
 
 -- ---- the window of a history
 
 -- an empty window into which its bars are gathered
 pub window-gathered : (r w : Window) (s : Span) (bars : List Bar) (di n : ℕ) → let p = upTo (length bars) di in w .count ≡ 0 → (s .to ≡ p) × (s .from ≡ p - min n p)
-    → (r .count ≡ w .count + (s .to - s .from)) × (barsIn r ≡ barsIn w ++ take (s .to - s .from) (drop (s .from) bars)) → (r .count ≤ n) × (barsIn r ≡ windowOf bars di n)
-unfolding barsIn barsOf
+    → (r .count ≡ w .count + (s .to - s .from)) × (windowBars r ≡ windowBars w ++ take (s .to - s .from) (drop (s .from) bars)) → (r .count ≤ n) × (windowBars r ≡ windowOf bars di n)
+unfolding windowBars barsOf
 window-gathered r w s bars di n none at got =
     (omega (arith, none, at .0, at .1, got .0), simp (none, at .0, at .1) at (got .1) ∙ window-part bars di n)
 
 -- ---- the answer
 
 -- the answer out of the windows of a history is the plain call's; a recogniser without a gate has an empty one
-pub answer-held : (k di : ℕ) (t : Thresholds) (bars : List Bar) (w gate : Window) (n : ℕ) → let len = length bars in n ≡ cond (eqb k gated) quarterBars 0 → barsIn w ≡ windowOf bars di reachBars
-    → barsIn gate ≡ windowOf bars gateEnd n → answerTo (plainVerdict k di t true len) (Labels (judgeOf k t len (upTo len di) (barsIn w) (barsIn gate))) ≡ plainAnswer k di t true bars
+pub answer-held : (k di : ℕ) (t : Thresholds) (bars : List Bar) (w gate : Window) (n : ℕ) → let len = length bars in n ≡ cond (eqb k gated) quarterBars 0 → windowBars w ≡ windowOf bars di reachBars
+    → windowBars gate ≡ windowOf bars gateEnd n → answerTo (plainVerdict k di t true len) (Labels (judgeOf k t len (upTo len di) (windowBars w) (windowBars gate))) ≡ plainAnswer k di t true bars
 unfolding plainAnswer
 answer-held k di t bars w gate n c e f =
     let len = length bars in

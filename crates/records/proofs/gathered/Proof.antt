@@ -51,7 +51,7 @@ use denote.Exit.{yes}
 use Rattle.measures.specs.Bar.{Bar, noBar}
 use Rattle.recognisers.specs.Number.{reachBars}
 use Rattle.records.specs.declared.Window.{Window}
-use Rattle.records.specs.Held.{barsIn}
+use Rattle.records.specs.Held.{windowBars}
 use Rattle.records.proofs.HeldLaws.{Left, left-more, left-none, withBar, bar-more}
 use Rattle.records.proofs.Walk.{own, own-usize, price-put}
 use Rattle.prices.proofs.bars.Bar as T
@@ -81,10 +81,10 @@ window-val w = LL.tuple-val N.the-type N′.the-laws (N.the-type .to w)
 
 -- an array of prices: its type, and its machine value
 abbrev Prices : RattleType
-Prices = Array f64 88
+Prices = Array f64 (4 * reachBars)
 
 abbrev prices-ty : Ty
-prices-ty = tyArray (tyFloat binary64) 88
+prices-ty = tyArray (tyFloat binary64) (4 * reachBars)
 
 abbrev prices-val : List Float → List Val
 prices-val = array-vals (float-vals binary64)
@@ -95,7 +95,7 @@ same [] = refl
 same (x ∷ xs) = ap (λ (ys : List Float). x ∷ ys) (same xs)
 
 is-prices : (xs : List Float) (vs : List Val) → Is Prices xs vs → Is Prices xs (prices-val xs)
-is-prices xs vs is = subst (Is Prices xs) (array-tells f64 (float-vals binary64) (float-tells binary64) 88 xs vs is) is
+is-prices xs vs is = subst (Is Prices xs) (array-tells f64 (float-vals binary64) (float-tells binary64) (4 * reachBars) xs vs is) is
 
 module _ {M : Type 1} (𝓤 : URA M) (H : Heap 𝓤) (A : Atoms 𝓤) (W : Given 𝓤 H A) (mem : Memory → SProp 𝓤) (run : Routine → Fun 𝓤) (κ : Lft) (q : Share) (b o : ℕ) (γ : GName) (ys : List Bar) (i to : ℕ) (w₀ : Window)
     (gn : Room T.the-row (length ys)) (gi : i < 2 ^ 64) (ge : to < 2 ^ 64) (is₀ : Is N.the-row w₀ (window-val w₀ ∷ [])) (inside : to ≤ length ys) (room : w₀ .count + (to - i) ≤ reachBars) where
@@ -109,7 +109,7 @@ module _ {M : Type 1} (𝓤 : URA M) (H : Heap 𝓤) (A : Atoms 𝓤) (W : Given
   count = w₀ .count + (to - i)
 
   abbrev all : List Bar
-  all = barsIn w₀ ++ take (to - i) (drop-first i ys)
+  all = windowBars w₀ ++ take (to - i) (drop-first i ys)
 
   abbrev Post : Val → SProp 𝓤
   Post = walkOf 𝓤 H A f.ended stayed (f.clauses 𝓤 H A mem run) .post (((κ, tt), (q, tt), tt, x, at), tt)
@@ -117,7 +117,7 @@ module _ {M : Type 1} (𝓤 : URA M) (H : Heap 𝓤) (A : Atoms 𝓤) (W : Given
   abbrev Own : Fml
   Own = ShrSlice (named 0) κ T.the-row .own (x .0) (at .0)
 
-  exits : (w : Window) (u : Val) → Is N.the-row w (u ∷ []) → (w .count ≡ count) × (barsIn w ≡ all) → ent 𝓤 (⋆ 𝓤 H A (‵ (flft κ q) ∷ ‵ Own ∷ [])) (Post u)
+  exits : (w : Window) (u : Val) → Is N.the-row w (u ∷ []) → (w .count ≡ count) × (windowBars w ≡ all) → ent 𝓤 (⋆ 𝓤 H A (‵ (flft κ q) ∷ ‵ Own ∷ [])) (Post u)
   exits w u is e =
       qed W (‵ (flft κ q) ∷ ‵ Own ∷ []) ∵
       suffices ! _ (ends-at 𝓤 H A f.ended stayed (f.clauses 𝓤 H A mem run) W (((κ, tt), (q, tt), tt, x, at), tt) u w (tt, (tt, (tt, (tt, tt)))) (tt, (tt, (tt, (tt, tt))))) $ says ! e $
@@ -128,7 +128,7 @@ module _ {M : Type 1} (𝓤 : URA M) (H : Heap 𝓤) (A : Atoms 𝓤) (W : Given
 
   -- where the loop stands: the next bar's place, and the window so far
   abbrev State : Type 0
-  State = (j : ℕ) × ((w : Window) × ((length (w .prices) ≡ 88) × ((j < 2 ^ 64) × Left ys to w j count all)))
+  State = (j : ℕ) × ((w : Window) × ((length (w .prices) ≡ 4 * reachBars) × ((j < 2 ^ 64) × Left ys to w j count all)))
 
   abbrev Nearer : State → State → Type 0
   Nearer s′ s = to - s′ .0 < to - s .0
@@ -224,7 +224,7 @@ module _ {M : Type 1} (𝓤 : URA M) (H : Heap 𝓤) (A : Atoms 𝓤) (W : Given
         w : Window
         w = s .1 .0
 
-        size : length (w .prices) ≡ 88
+        size : length (w .prices) ≡ 4 * reachBars
         size = s .1 .1 .0
 
         left : Left ys to w j count all
@@ -242,10 +242,10 @@ module _ {M : Type 1} (𝓤 : URA M) (H : Heap 𝓤) (A : Atoms 𝓤) (W : Given
         full : w .count < reachBars
         full = omega (arith, left .0, room, below)
 
-        small : (n : ℕ) → n ≤ 88 → n < 2 ^ 64
+        small : (n : ℕ) → n ≤ 4 * reachBars → n < 2 ^ 64
         small n few = omega (arith, few)
 
-        bytes : (n : ℕ) → n ≤ 88 → n * 8 < 2 ^ 64
+        bytes : (n : ℕ) → n ≤ 4 * reachBars → n * 8 < 2 ^ 64
         bytes n few = omega (arith, few)
 
         scaled : j * 32 < 2 ^ 64
@@ -269,16 +269,16 @@ module _ {M : Type 1} (𝓤 : URA M) (H : Heap 𝓤) (A : Atoms 𝓤) (W : Given
         p₃ : List Float
         p₃ = set p₂ (at + 2) (h .high)
 
-        s₁ : length p₁ ≡ 88
+        s₁ : length p₁ ≡ 4 * reachBars
         s₁ = length-set (w .prices) at (h .«open») ∙ size
 
-        s₂ : length p₂ ≡ 88
+        s₂ : length p₂ ≡ 4 * reachBars
         s₂ = length-set p₁ (at + 1) (h .close) ∙ s₁
 
-        s₃ : length p₃ ≡ 88
+        s₃ : length p₃ ≡ 4 * reachBars
         s₃ = length-set p₂ (at + 2) (h .high) ∙ s₂
 
-        full-next : length (withBar w h .prices) ≡ 88
+        full-next : length (withBar w h .prices) ≡ 4 * reachBars
         full-next = length-set p₃ (at + 3) (h .low) ∙ s₃
 
         in-0 : at < length (w .prices)
@@ -312,10 +312,10 @@ module _ {M : Type 1} (𝓤 : URA M) (H : Heap 𝓤) (A : Atoms 𝓤) (W : Given
         assigns ! (bin ! (load ! (from ! (stop !)) (look ! 40 refl)) (load ! (from ! (stop !)) (look ! 38 refl)) tt) (from ! (stop !)) (init ! 27 refl (tt, tt)) $
         rewrite ! 27 (λ (t : Bool). ‵ (fat fullShare tyBool l₉ 0 (vbool t))) no-less refl $ leaves-loop ! (load ! (from ! (stop !)) (look ! 27 refl)) $ exec ! C Λ En body.t-4 (atRet En Post) $
         -- the array is whole again
-        rewrite ! 0 (λ (xs : List Float). ‵ (row f64 fullShare xs l₅ 0)) (sym (same (w .prices))) refl $ feqI ! ℕ (length ps) 88 size $ fjoin ! $ use1 W (‵ (partAt Prices fullShare ps l₅ 0)) (array-whole 𝓤 H A W f64 fullShare 88 ps l₅ 0) $ fpick ! (λ vs. fsplit ! $ move ! (1 ∷ []) $
+        rewrite ! 0 (λ (xs : List Float). ‵ (row f64 fullShare xs l₅ 0)) (sym (same (w .prices))) refl $ feqI ! ℕ (length ps) (4 * reachBars) size $ fjoin ! $ use1 W (‵ (partAt Prices fullShare ps l₅ 0)) (array-whole 𝓤 H A W f64 fullShare (4 * reachBars) ps l₅ 0) $ fpick ! (λ vs. fsplit ! $ move ! (1 ∷ []) $
         peeks ! Prices (Is Prices) (shows 𝓤 H A Prices) ps vs (λ is. drop ! $
-        rewrite ! 0 (λ (us : List Val). ‵ (cellRaw fullShare (rawAll (Prices .mir)) us l₅ 0)) (array-tells f64 (float-vals binary64) (float-tells binary64) 88 ps vs is) refl $
-        assigns ! (of-opd ! (load ! (from ! (stop !)) (look ! 0 refl))) (from ! (stop !)) (init ! 1 refl (array-lawful 𝓤 H A W f64 (float-lawful 𝓤 H A W binary64) 88 .typed ps _ (is-prices ps vs is) .0)) $
+        rewrite ! 0 (λ (us : List Val). ‵ (cellRaw fullShare (rawAll (Prices .mir)) us l₅ 0)) (array-tells f64 (float-vals binary64) (float-tells binary64) (4 * reachBars) ps vs is) refl $
+        assigns ! (of-opd ! (load ! (from ! (stop !)) (look ! 0 refl))) (from ! (stop !)) (init ! 1 refl (array-lawful 𝓤 H A W f64 (float-lawful 𝓤 H A W binary64) (4 * reachBars) .typed ps _ (is-prices ps vs is) .0)) $
         assigns ! (agg ! (and-then ! (load ! (from ! (stop !)) (look ! 1 refl)) (and-then ! (load ! (from ! (stop !)) (look ! 33 refl)) (no-more !)))) (from ! (stop !)) (init ! 44 refl (LL.lawful N.the-type N′.the-laws 𝓤 H A W .typed w _ (made vs is) .0)) $
         returns ! (look ! 44 refl) $ forget ! 0 refl $ forget ! 1 refl $ forget ! 27 refl $ forget ! 33 refl $ forget ! 36 refl $ forget ! 38 refl $ forget ! 40 refl $ forget ! 42 refl $ forget ! 44 refl $
         move ! (44 ∷ 45 ∷ []) $ free1 ! $ move ! (42 ∷ 43 ∷ []) $ free1 ! $ move ! (40 ∷ 41 ∷ []) $ free1 ! $ move ! (38 ∷ 39 ∷ []) $ free1 ! $ move ! (36 ∷ 37 ∷ []) $ free1 ! $
@@ -331,7 +331,7 @@ module _ {M : Type 1} (𝓤 : URA M) (H : Heap 𝓤) (A : Atoms 𝓤) (W : Given
         ps : List Float
         ps = map (λ (x : Float). x) (w .prices)
 
-        size : length ps ≡ 88
+        size : length ps ≡ 4 * reachBars
         size = ap length (same (w .prices)) ∙ s .1 .1 .0
 
         fits : w .count < 2 ^ 64
@@ -345,7 +345,7 @@ module _ {M : Type 1} (𝓤 : URA M) (H : Heap 𝓤) (A : Atoms 𝓤) (W : Given
     turn-at s false e = over s e
 
     -- the body, from the loop on
-    looped : (size : length (w₀ .prices) ≡ 88) → Sq W (At (i, (w₀, (size, (gi, (refl, refl)))))) (runs C Λ En body.t-3 (atRet En Post))
+    looped : (size : length (w₀ .prices) ≡ 4 * reachBars) → Sq W (At (i, (w₀, (size, (gi, (refl, refl)))))) (runs C Λ En body.t-3 (atRet En Post))
     looped size = first ! $ blocks ! $ loops ! 𝓣 Nearer Nearer-wf At (λ s. turn-at s (ltb (s .0) to) refl) (i, (w₀, (size, (gi, (refl, refl)))))
 
   walk : (𝓣 : Tables 𝓤 H) → ent 𝓤 (onEntry 𝓤 H A f.signature (κ, tt) (q, tt) x at)
@@ -359,12 +359,12 @@ module _ {M : Type 1} (𝓤 : URA M) (H : Heap 𝓤) (A : Atoms 𝓤) (W : Given
       pass1 ! (init ! 42 refl (tt, (tt, (record { fits = gn .0 }, tt)))) $ pass1 ! (init ! 40 refl (tt, record { fits = gi })) $ pass1 ! (init ! 38 refl (tt, record { fits = ge })) $
       pass1 ! (init ! 36 refl (LL.lawful N.the-type N′.the-laws 𝓤 H A W .typed w₀ _ is₀ .0)) $ pass0 ! $
       -- [_22; …; .. _0; …; the token; what the parameters own]
-      assigns ! (of-opd ! (load ! (from ! (fld ! refl (stop !))) (look-in ! 36 (sub ! 0 refl (whole !))))) (from ! (stop !)) (init ! 34 refl (array-lawful 𝓤 H A W f64 (float-lawful 𝓤 H A W binary64) 88 .typed held _ is .0)) $
+      assigns ! (of-opd ! (load ! (from ! (fld ! refl (stop !))) (look-in ! 36 (sub ! 0 refl (whole !))))) (from ! (stop !)) (init ! 34 refl (array-lawful 𝓤 H A W f64 (float-lawful 𝓤 H A W binary64) (4 * reachBars) .typed held _ is .0)) $
       assigns ! (of-opd ! (load ! (from ! (fld ! refl (stop !))) (look-in ! 36 (sub ! 1 refl (whole !))))) (from ! (stop !)) (init ! 32 refl (tt, record { fits = is₀ .1 .1 .1 .0 .1 })) $
       -- the array is apart
-      move ! (34 ∷ []) $ owned ! Prices (Is Prices) (array-makes 𝓤 H A W f64 (float-makes 𝓤 H A W binary64) 88) held (prices-val held) is $ move ! (1 ∷ 0 ∷ []) $ fjoin ! $
+      move ! (34 ∷ []) $ owned ! Prices (Is Prices) (array-makes 𝓤 H A W f64 (float-makes 𝓤 H A W binary64) (4 * reachBars)) held (prices-val held) is $ move ! (1 ∷ 0 ∷ []) $ fjoin ! $
       fpack ! (List Val) (λ us. fsep (cellRaw fullShare (rawAll (Prices .mir)) us l₅ 0) (Prices .own held us)) (prices-val held) $
-      use1 W (‵ (arr-parts (shares f64) 88 .part fullShare held l₅ 0)) (array-apart 𝓤 H A W f64 fullShare tt 88 held l₅ 0) $ fsplit ! $ feqL ! (λ size.
+      use1 W (‵ (arr-parts (shares f64) (4 * reachBars) .part fullShare held l₅ 0)) (array-apart 𝓤 H A W f64 fullShare tt (4 * reachBars) held l₅ 0) $ fsplit ! $ feqL ! (λ size.
       rewrite ! 0 (λ (xs : List Float). ‵ (row f64 fullShare xs l₅ 0)) (same (w₀ .prices)) refl $
       -- [the row; _22; …; .. but for what lies in _5; .. _0; …; the token; what the parameters own]
       move ! (47 ∷ []) $ fsplit ! $ move ! (48 ∷ []) $ split ! $

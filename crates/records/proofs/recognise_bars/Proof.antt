@@ -50,7 +50,7 @@ use Rattle.recognisers.specs.Table.{judgeOf}
 use Rattle.recognisers.specs.Refusal.{answerTo, plainVerdict}
 use Rattle.recognisers.proofs.AnswerLaws.{Answers, plain-values}
 use Rattle.records.specs.declared.Window.{Window}
-use Rattle.records.specs.Held.{barsIn}
+use Rattle.records.specs.Held.{windowBars}
 use Rattle.records.proofs.HeldLaws.{answer-held}
 use Rattle.records.proofs.Walk.{own, own-u32, own-usize}
 use Rattle.prices.proofs.bars.Bar as T
@@ -79,13 +79,13 @@ stayed = (stay-none (λ _. u32) yes, (stay-none (λ _. u32) yes, (stay-none (λ 
 
 -- what the callees ensure
 abbrev Held : List Bar → ℕ → ℕ → Window → Type 0
-Held bars di n r = (r .count ≤ reachBars) × (barsIn r ≡ windowOf bars di n)
+Held bars di n r = (r .count ≤ reachBars) × (windowBars r ≡ windowOf bars di n)
 
 abbrev Gated : ℕ → ℕ → Type 0
 Gated k n = (n ≡ cond (eqb k gated) quarterBars 0) × (n ≤ quarterBars)
 
-abbrev answerIn : ℕ → ℕ → Thresholds → ℕ → Window → Window → Answer
-answerIn k di t len w gate = answerTo (plainVerdict k di t true len) (Labels (judgeOf k t len (upTo len di) (barsIn w) (barsIn gate)))
+abbrev heldAnswer : ℕ → ℕ → Thresholds → ℕ → Window → Window → Answer
+heldAnswer k di t len w gate = answerTo (plainVerdict k di t true len) (Labels (judgeOf k t len (upTo len di) (windowBars w) (windowBars gate)))
 
 module _ {M : Type 1} (𝓤 : URA M) (H : Heap 𝓤) (A : Atoms 𝓤) (mem : Memory → SProp 𝓤) (run : Routine → Fun 𝓤) where
   -- the contracts that the proof cites
@@ -155,8 +155,8 @@ module _ {M : Type 1} (𝓤 : URA M) (H : Heap 𝓤) (A : Atoms 𝓤) (W : Given
       own-u32 W di gd $
       own-u32 W k gk $ nothing ! $ frame ! $ done !
 
-  answered : (w gate : Window) (r : Answer) → ent 𝓤 (ensured 𝓤 H A answer.ended (answer.clauses 𝓤 H A mem run) tt (asked w gate) tt r) (fact 𝓤 (r ≡ answerIn k di t len w gate))
-  answered w gate r = exE 𝓤 _ (λ ws. snd∗ 𝓤 (sem 𝓤 H A (lasts answer.ended tt (asked w gate) ws)) (fact 𝓤 (r ≡ answerIn k di t len w gate)))
+  answered : (w gate : Window) (r : Answer) → ent 𝓤 (ensured 𝓤 H A answer.ended (answer.clauses 𝓤 H A mem run) tt (asked w gate) tt r) (fact 𝓤 (r ≡ heldAnswer k di t len w gate))
+  answered w gate r = exE 𝓤 _ (λ ws. snd∗ 𝓤 (sem 𝓤 H A (lasts answer.ended tt (asked w gate) ws)) (fact 𝓤 (r ≡ heldAnswer k di t len w gate)))
 
   exits : (r : Answer) (u : Val) → Answers k di t true (p .now) r → ent 𝓤 (⋆ 𝓤 H A (‵ (R.the-row .own r (u ∷ [])) ∷ (‵ (flft κ q) ⊛ ‵ ftrue) ∷ ‵ Own ∷ [])) (Post u)
   exits r u e =
@@ -206,7 +206,7 @@ module _ {M : Type 1} (𝓤 : URA M) (H : Heap 𝓤) (A : Atoms 𝓤) (W : Given
         calls-at ! fm (AnswerOf 𝓤 H A mem run) known₃ (to-answer w u gate u′)
         (and-then ! (load ! (from ! (stop !)) (look ! 19 refl)) (and-then ! (load ! (from ! (stop !)) (look ! 17 refl)) (and-then ! (load ! (from ! (stop !)) (look ! 15 refl)) (and-then ! (load ! (from ! (stop !)) (look ! 7 refl)) (and-then ! (load ! (from ! (stop !)) (look ! 11 refl)) (and-then ! (load ! (from ! (stop !)) (look ! 9 refl)) (no-more !))))))) (λ v.
         use1 W (later (some (λ (r : Answer). (‵ ftrue ⊛ ‵ (R.the-row .own r (v ∷ []))) ⊛ raw (ensured 𝓤 H A answer.ended (answer.clauses 𝓤 H A mem run) tt (asked w gate) tt r)))) (id⊢ 𝓤 _) $ await ! tt $ pick ! (λ r.
-        split ! $ move ! (1 ∷ []) $ use1 W (raw (fact 𝓤 (r ≡ answerIn k di t len w gate))) (answered w gate r) $ heard ! (r ≡ answerIn k di t len w gate) (λ e₄. split ! $ drop ! $
+        split ! $ move ! (1 ∷ []) $ use1 W (raw (fact 𝓤 (r ≡ heldAnswer k di t len w gate))) (answered w gate r) $ heard ! (r ≡ heldAnswer k di t len w gate) (λ e₄. split ! $ drop ! $
         peeks ! R.the-row (Is R.the-row) (shows 𝓤 H A R.the-row) r (v ∷ []) (λ is₃.
         -- [the answer; the token; what the slice owns; four more; _7; …; .. _0; …]
         land ! (from ! (stop !)) (init ! 21 refl (EL.lawful R.the-type R′.the-laws 𝓤 H A W tt .typed r _ is₃ .0)) $
