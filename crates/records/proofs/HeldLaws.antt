@@ -4,13 +4,13 @@ use mathlib.Core.Path.{_≡_, refl, ap, sym, _∙_}
 use mathlib.Core.Bool.{true, cond}
 use mathlib.Core.List.{List, [], _∷_, _++_, append-assoc, append-nil}
 use native.Mathlib.Omega.{arith}
-use native.Mathlib.Numerals.{unary-clauses}
 use lib.Dec.{eqb}
-use lib.ListN.{length, getD, set, take, drop, length-append}
-use lib.Seq.{sets, sets-eq, take-at, length-take-le}
+use lib.ListN.{length, getD, take, drop, length-append}
+use lib.Seq.{take-at, length-take-le}
 use lib.Ieee.{Float}
-use Rattle.measures.specs.Bar.{Bar, barOf, noBar, barsOf}
+use Rattle.measures.specs.Bar.{Bar, barOf, noBar, barsOf, pricesOf, putBar}
 use Rattle.measures.specs.Window.{upTo, windowOf}
+use Rattle.measures.proofs.PriceLaws.{length-prices, bars-prices, put-room}
 use Rattle.measures.proofs.RunLaws.{from-bar}
 use Rattle.measures.proofs.WindowLaws.{window-part}
 use Rattle.recognisers.proofs.Reach.{pair-near}
@@ -36,29 +36,23 @@ bars-append n (o ∷ c ∷ []) qs e = absurd (let z : ⊥ = omega arith in z)
 bars-append n (o ∷ c ∷ h ∷ []) qs e = absurd (let z : ⊥ = omega arith in z)
 bars-append n (o ∷ c ∷ h ∷ l ∷ rest) qs e = ap (λ (bs : List Bar). barOf o c h l ∷ bs) (bars-append (n - 1) rest qs (omega arith))
 
--- four prices stored behind those of n bars are one bar more
-bars-stored : (n : ℕ) (ps : List Float) (o c h l : Float) → 4 * n + 4 ≤ length ps
-    → barsOf (take (4 * (n + 1)) (set (set (set (set ps (4 * n) o) (4 * n + 1) c) (4 * n + 2) h) (4 * n + 3) l)) ≡ barsOf (take (4 * n) ps) ++ barOf o c h l ∷ []
-unfolding barsOf
-bars-stored n ps o c h l fits =
-    let four = o ∷ c ∷ h ∷ l ∷ [] in
-    let before = take (4 * n) ps in
-    let size : length before ≡ 4 * n = length-take-le (4 * n) ps (omega arith) in
-    let front : length (before ++ four) ≡ 4 * (n + 1) = length-append before four ∙ omega (arith, size) in
-    let stored : set (set (set (set ps (4 * n) o) (4 * n + 1) c) (4 * n + 2) h) (4 * n + 3) l ≡ sets ps (4 * n) four = simp unary-clauses in
-    ap (λ (qs : List Float). barsOf (take (4 * (n + 1)) qs)) (stored ∙ sets-eq four ps (4 * n) fits)
-    ∙ ap barsOf (take-at (before ++ four) (drop (4 * n + 4) ps) (4 * (n + 1)) front)
-    ∙ bars-append n before four size
-
 -- a window with a bar more
 abbrev pub withBar : Window → Bar → Window
-withBar w b =
-    let at = 4 * w .count in
-    record { prices = set (set (set (set (w .prices) at (b .«open»)) (at + 1) (b .close)) (at + 2) (b .high)) (at + 3) (b .low); count = w .count + 1 }
+withBar w b = record { prices = putBar (w .prices) (w .count) b; count = w .count + 1 }
 
-pub bar-more : (w : Window) (b : Bar) → 4 * w .count + 4 ≤ length (w .prices) → windowBars (withBar w b) ≡ windowBars w ++ b ∷ []
+pub bar-more : (w : Window) (b : Bar) → 4 * (w .count + 1) ≤ length (w .prices) → windowBars (withBar w b) ≡ windowBars w ++ b ∷ []
 unfolding windowBars
-bar-more w b fits = bars-stored (w .count) (w .prices) (b .«open») (b .close) (b .high) (b .low) fits
+bar-more w b fits =
+    let n = w .count in
+    let four = pricesOf (b ∷ []) in
+    let before = take (4 * n) (w .prices) in
+    let size : length before ≡ 4 * n = length-take-le (4 * n) (w .prices) (omega arith) in
+    let front : length (before ++ four) ≡ 4 * (n + 1) = length-append before four ∙ omega (arith, size, length-prices (b ∷ [])) in
+    let rest = drop (4 * n + length four) (w .prices) in
+    ap (λ (qs : List Float). barsOf (take (4 * (n + 1)) qs)) (put-room (w .prices) n b fits)
+    ∙ ap barsOf (take-at (before ++ four) rest (4 * (n + 1)) front)
+    ∙ bars-append n before four size
+    ∙ ap (λ (bs : List Bar). barsOf before ++ bs) (bars-prices (b ∷ []))
 
 -- ---- what is left to gather, of the bars before a place
 

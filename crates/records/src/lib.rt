@@ -55,12 +55,7 @@ fn gathered(bars: &[Bar], mut i: usize, to: usize, w: Window) -> Window
     let mut prices = w.prices;
     let mut count = w.count;
     while i < to {
-        let b = bars[i];
-        let at = 4 * count;
-        prices[at] = b.open;
-        prices[at + 1] = b.close;
-        prices[at + 2] = b.high;
-        prices[at + 3] = b.low;
+        measures::put_bar(bars[i], &mut prices, count);
         count += 1;
         i += 1;
     }
