@@ -11,13 +11,14 @@ use measures::least;
 use recognisers::Thresholds;
 use recognisers::call::Verdict;
 use recognisers::call::refusal_number;
+use recognisers::counts::ROW_BYTES;
 use std::num::wrapping_add_u64;
 
 // The most bars of a history here, and a sheet with room for a row more than that has. A byte that is not written shows: it is 255,
 // which no row has.
 pub const BARS: usize = 300;
 
-pub const SHEET: usize = 36 * (BARS + 1);
+pub const SHEET: usize = ROW_BYTES * (BARS + 1);
 
 // How many bars the first feed has and how many each later one, the last as many as are left; whether an empty feed goes before
 // each, and whether refused ones come after it.
@@ -90,8 +91,8 @@ fn feed_refused(f: Fed, wanted: bool, prices: &[f64], sheet: &mut [u8], bar: usi
 {
     let a = 4 * bar;
     let e = 4 * (bar + n);
-    let at = 36 * bar;
-    let end = 36 * (bar + n);
+    let at = ROW_BYTES * bar;
+    let end = ROW_BYTES * (bar + n);
     let next = feed(f, wanted, part(prices, a + 1, e), sheet, at, end);
     feed(next, wanted, part(prices, a, e), sheet, at + 1, end)
 }
@@ -102,7 +103,7 @@ fn feed_turn(f: Fed, cut: Cut, prices: &[f64], sheet: &mut [u8], bar: usize, n: 
 {
     let a = 4 * bar;
     let e = 4 * (bar + n);
-    let at = 36 * bar;
+    let at = ROW_BYTES * bar;
     let begun = feed(f, cut.empty, part(prices, a, a), sheet, at, SHEET);
     let fed = feed(begun, true, part(prices, a, e), sheet, at, SHEET);
     feed_refused(fed, cut.refused, prices, sheet, bar, n)

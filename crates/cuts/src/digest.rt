@@ -6,6 +6,8 @@ use measures::least;
 use recognisers::LookAnswer;
 use recognisers::call::answer_in;
 use recognisers::call::ordinal_in;
+use recognisers::counts::PLACES;
+use recognisers::counts::RECOGNISERS;
 use recognisers::export::answer_number;
 
 // The largest prime below 2^32, and what a digest is multiplied by at each step: no product reaches 2^64.
@@ -15,8 +17,8 @@ const FACTOR: u64 = 2654435761;
 
 const WORD: u64 = 0x1_0000_0000;
 
-// Each of the 18 recognisers at each offset from 0, which is refused, to 44, which is refused too.
-pub const LOOKS: u32 = 18 * OFFSETS;
+// Each recogniser at each offset from 0, which is refused, to 44, which is refused too.
+pub const LOOKS: u32 = RECOGNISERS as u32 * OFFSETS;
 
 pub const OFFSETS: u32 = 45;
 
@@ -54,8 +56,8 @@ fn mix_kept(d: u64, place: KeptBar) -> u64 {
 }
 
 // Of what the places hold from one on, before another.
-pub fn of_places(bars: [KeptBar; 64], from: usize, to: usize) -> u64 {
-    let end = least(to, 64);
+pub fn of_places(bars: [KeptBar; PLACES], from: usize, to: usize) -> u64 {
+    let end = least(to, PLACES);
     let mut d = 1;
     let mut i = from;
     while i < end {
@@ -68,7 +70,7 @@ pub fn of_places(bars: [KeptBar; 64], from: usize, to: usize) -> u64 {
 // Of the count and of all places.
 pub fn of_box(b: BarBox) -> u64 {
     let bars = b.bars;
-    mix(of_places(bars, 0, 64), b.count as u64)
+    mix(of_places(bars, 0, PLACES), b.count as u64)
 }
 
 pub fn of_bytes(s: &[u8]) -> u64 {

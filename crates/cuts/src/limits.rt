@@ -11,6 +11,9 @@ use recognisers::LookAnswer;
 use recognisers::Thresholds;
 use recognisers::call::answer_in;
 use recognisers::call::ordinal_in;
+use recognisers::counts::PLACES;
+use recognisers::counts::RECOGNISERS;
+use recognisers::counts::ROW_BYTES;
 use recognisers::export::answer_number;
 
 // The standard set but for the i-th threshold: x where that is a float, else n.
@@ -52,9 +55,12 @@ pub fn fed(b: BarBox, prices: &[f64]) -> BarBox {
     out.after
 }
 
-// The sheet has room for three bars; so many of its bytes are lent. Writes the verdict, then the box and the whole sheet after it.
+// A sheet with room for three bars.
+const SMALL_SHEET: usize = 3 * ROW_BYTES;
+
+// So many bytes of such a sheet are lent. Writes the verdict, then the box and the whole sheet after it.
 pub fn feed(b: BarBox, prices: &[f64], lent: usize) -> BarBox {
-    let mut sheet = [255u8; 108];
+    let mut sheet = [255u8; SMALL_SHEET];
     let out = feed_to(b, prices, &mut sheet, 0, lent);
     let after = out.after;
     let verdict = out.verdict;
@@ -70,7 +76,7 @@ pub fn write_places(b: BarBox) {
     print::number(b": count ", b.count as u64);
     print::digest(b", 0 to 9 ", of_places(bars, 0, 10));
     print::digest(b", 10 to 12 ", of_places(bars, 10, 13));
-    print::digest(b", 13 to 63 ", of_places(bars, 13, 64));
+    print::digest(b", 13 to 63 ", of_places(bars, 13, PLACES));
 }
 
 // The judged bar's ordinal; a refused look has none.
@@ -92,15 +98,15 @@ pub fn write_look(b: BarBox, k: u32, di: u32) {
     write_ordinal(a);
 }
 
-// Every recogniser at an offset, v1 × 256 + v2, then the ordinal, which is the last one's: it is the same for all.
+// Every recogniser at an offset, v1 × 256 + v2, then the ordinal, which is the same for all.
 pub fn write_looks(b: BarBox, di: u32) {
     let mut k = 0u32;
-    while k < 18 {
+    while (k as usize) < RECOGNISERS {
         print::number(
             b" ",
             answer_number(answer_in(bar_box::look(b, k, di))) as u64,
         );
         k += 1;
     }
-    write_ordinal(bar_box::look(b, 17, di));
+    write_ordinal(bar_box::look(b, 0, di));
 }

@@ -41,6 +41,7 @@ use libc::STDOUT_FILENO;
 use measures::Bar;
 use measures::least;
 use recognisers::Thresholds;
+use recognisers::counts::PLACES;
 use script::EMPTY;
 use script::Line;
 use script::float;
@@ -130,7 +131,7 @@ fn occupied(x: f64) -> BarBox {
     BarBox {
         thresholds: Thresholds::standard(),
         count: 0,
-        bars: [place; 64],
+        bars: [place; PLACES],
     }
 }
 

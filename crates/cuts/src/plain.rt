@@ -14,6 +14,9 @@ use measures::least;
 use recognisers::Thresholds;
 use recognisers::call::Refusal;
 use recognisers::call::refusal_number;
+use recognisers::counts::FARTHEST_LOOK;
+use recognisers::counts::PLACES;
+use recognisers::counts::RECOGNISERS;
 use recognisers::export::answer_number;
 
 // The plain call as a number.
@@ -24,10 +27,14 @@ fn call(prices: &[f64], k: u32, di: u32) -> u32 {
 // The sheet: the pairs of each bar as the newest of those before it and itself.
 pub fn rows(prices: &[f64]) -> [u8; SHEET] {
     let mut sheet = [255u8; SHEET];
-    let pairs = 18 * least(measures::count(prices), BARS);
+    let pairs = RECOGNISERS * least(measures::count(prices), BARS);
     let mut i = 0usize;
     while i < pairs {
-        let n = call(measures::first_bars(prices, i / 18 + 1), (i % 18) as u32, 1);
+        let n = call(
+            measures::first_bars(prices, i / RECOGNISERS + 1),
+            (i % RECOGNISERS) as u32,
+            1,
+        );
         sheet[2 * i] = (n / 256 % 256) as u8;
         sheet[2 * i + 1] = (n % 256) as u8;
         i += 1;
@@ -38,7 +45,7 @@ pub fn rows(prices: &[f64]) -> [u8; SHEET] {
 // The bar in a place of a box that was fed these bars.
 fn bar_in(prices: &[f64], place: usize) -> Bar {
     let n = measures::count(prices);
-    let kept = least(n, 64);
+    let kept = least(n, PLACES);
     if place < kept {
         measures::bar_or_none(prices, n - kept + place)
     } else {
@@ -54,7 +61,7 @@ fn bar_in(prices: &[f64], place: usize) -> Bar {
 // The ordinal there, from 1 for the first bar of all; an empty place holds 0.
 fn ordinal_in(prices: &[f64], place: usize) -> u64 {
     let n = measures::count(prices);
-    let kept = least(n, 64);
+    let kept = least(n, PLACES);
     if place < kept {
         (n - kept + place + 1) as u64
     } else {
@@ -65,7 +72,7 @@ fn ordinal_in(prices: &[f64], place: usize) -> u64 {
 fn of_places(prices: &[f64]) -> u64 {
     let mut d = 1;
     let mut i = 0usize;
-    while i < 64 {
+    while i < PLACES {
         d = mix_place(d, bar_in(prices, i), ordinal_in(prices, i));
         i += 1;
     }
@@ -74,7 +81,7 @@ fn of_places(prices: &[f64]) -> u64 {
 
 // A look at 44 is refused, where the plain call is not.
 fn look(prices: &[f64], k: u32, di: u32) -> u32 {
-    if 43 < di {
+    if FARTHEST_LOOK < di {
         return 65536 + refusal_number(Refusal::FarLook) as u32;
     }
     call(prices, k, di)
@@ -87,7 +94,7 @@ fn ordinal_back(prices: &[f64], di: u32) -> u64 {
     if back == 0 {
         return 0;
     }
-    if 43 < back {
+    if FARTHEST_LOOK < di {
         return 0;
     }
     if n < back {

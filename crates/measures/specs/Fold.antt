@@ -34,11 +34,11 @@ unfoldable pub sumOf : List Float → Float
 sumOf xs = foldl (add binary64) zero xs
 
 -- what one step of the code's folds makes of what it has and the next price
-abbrev pub stepOf : Fold → Float → Float → Float
-stepOf Highest x y = maxOf x y
-stepOf Lowest x y = minOf x y
-stepOf Sum x y = add binary64 x y
-stepOf (Squares mean) x y = add binary64 x (squareOf (sub binary64 y mean))
+abbrev pub foldStep : Fold → Float → Float → Float
+foldStep Highest x y = maxOf x y
+foldStep Lowest x y = minOf x y
+foldStep Sum x y = add binary64 x y
+foldStep (Squares mean) x y = add binary64 x (squareOf (sub binary64 y mean))
 
 -- ---- variance: mean of squares about the mean, sums from the oldest
 

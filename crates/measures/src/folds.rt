@@ -2,7 +2,7 @@
 ghost use mathlib.Core.Path.{_≡_};
 ghost use mathlib.Core.List.{[], _∷_, foldl};
 ghost use Rattle.prices.specs.Bar.{barsOf};
-ghost use Rattle.measures.specs.Fold.{priceOf, columnOf, stepOf, highestOf, lowestOf, sizeOf, meanOf, varianceOf, extremesOf, lowSide, highSide};
+ghost use Rattle.measures.specs.Fold.{priceOf, columnOf, foldStep, highestOf, lowestOf, sizeOf, meanOf, varianceOf, extremesOf, lowSide, highSide};
 use crate::windows::bar_at;
 use crate::windows::count;
 use prices::bars::Bar;
@@ -39,7 +39,7 @@ fn price_in(b: Bar, column: Column) -> f64
 
 // One step of a fold.
 fn step(f: Fold, x: f64, y: f64) -> f64
-    ensures { λ r. ⌜ r ≡ stepOf f x y ⌝ }
+    ensures { λ r. ⌜ r ≡ foldStep f x y ⌝ }
 {
     match f {
         Fold::Highest => price::max(x, y),
@@ -51,7 +51,7 @@ fn step(f: Fold, x: f64, y: f64) -> f64
 
 // A fold over a column of a run, from the oldest bar.
 fn fold_column(prices: &[f64], c: Column, f: Fold, start: f64) -> f64
-    ensures { λ r. ⌜ r ≡ foldl (stepOf f) start (columnOf c (barsOf (now (prices .entry)))) ⌝ }
+    ensures { λ r. ⌜ r ≡ foldl (foldStep f) start (columnOf c (barsOf (now (prices .entry)))) ⌝ }
 {
     let n = count(prices);
     let mut x = start;

@@ -11,7 +11,7 @@ use Rattle.measures.specs.Bar.{barsOf}
 use Rattle.measures.specs.Window.{upTo, windowOf, pricesFrom}
 use Rattle.measures.proofs.RunLaws.{length-bars, bars-part}
 use Rattle.measures.proofs.WindowLaws.{upTo-le, window-part}
-use Rattle.recognisers.specs.Export.{littleEndian, wordAt, priceAt, pricesAt, decodedPrices}
+use Rattle.recognisers.specs.Export.{barBytes, littleEndian, wordAt, priceAt, pricesAt, decodedPrices}
 
 -- eight bytes, one by one
 eight : (s : List ℕ) → littleEndian (take 8 s) ≡ wordAt s 0
@@ -53,8 +53,8 @@ unfolding pricesAt
 length-prices s at zero = refl
 length-prices s at (suc n) = ap suc (length-prices s (at + 8) n)
 
--- a history has a bar for each 32 bytes
-pub length-history : (s : List ℕ) → length (barsOf (decodedPrices s)) ≡ length s / 32
+-- a history's bars, by its bytes
+pub length-history : (s : List ℕ) → length (barsOf (decodedPrices s)) ≡ length s / barBytes
 unfolding decodedPrices
 length-history s =
     let e : length (pricesAt s 0 (length s / 8)) ≡ length s / 8 = length-prices s 0 (length s / 8) in
@@ -80,17 +80,17 @@ prices-part s k n all h =
     rw (e, prices-rest s 0 k (n + (all - (k + n))), f, prices-front s (8 * k) n (all - (k + n)))
 
 -- the window's prices stand in the bytes of its bars
-pub window-bytes : (s : List ℕ) (di n : ℕ) → let p = upTo (length s / 32) di in
-    barsOf (pricesAt s (32 * (p - min n p)) (4 * min n p)) ≡ windowOf (barsOf (decodedPrices s)) di n
+pub window-bytes : (s : List ℕ) (di n : ℕ) → let p = upTo (length s / barBytes) di in
+    barsOf (pricesAt s (barBytes * (p - min n p)) (4 * min n p)) ≡ windowOf (barsOf (decodedPrices s)) di n
 unfolding decodedPrices
 window-bytes s di n =
-    let len = length s / 32 in
+    let len = length s / barBytes in
     let p = upTo len di in
     let m = min n p in
     let ps = pricesAt s 0 (length s / 8) in
     let h : p ≤ len = upTo-le len di in
-    let e : 8 * ((p - m) * 4) ≡ 32 * (p - m) = omega arith in
+    let e : 8 * ((p - m) * 4) ≡ barBytes * (p - m) = omega arith in
     let f : p * 4 - (p - m) * 4 ≡ 4 * m = omega arith in
     let fits : (p - m) * 4 + 4 * m ≤ length s / 8 = omega arith in
-    let part : pricesFrom ps (p - m) p ≡ pricesAt s (32 * (p - m)) (4 * m) = rw f (prices-part s ((p - m) * 4) (4 * m) (length s / 8) fits ∙ rw e) in
+    let part : pricesFrom ps (p - m) p ≡ pricesAt s (barBytes * (p - m)) (4 * m) = rw f (prices-part s ((p - m) * 4) (4 * m) (length s / 8) fits ∙ rw e) in
     rw (← part) (bars-part ps (p - m) p ∙ rw (length-history s) at (window-part (barsOf ps) di n))

@@ -12,6 +12,9 @@ use Rattle.recognisers.specs.declared.call.Answer.the-variants.{Labels, 
 use Rattle.rule_types.specs.Label.{codeOf}
 use Rattle.recognisers.specs.Refusal.{refusalNumber, plainAnswer}
 
+abbrev pub barBytes : ℕ
+barBytes = 32
+
 -- the number that bytes stand for, least significant first
 unfoldable pub littleEndian : List ℕ → ℕ
 littleEndian [] = 0
@@ -40,7 +43,7 @@ resultOf (Refused r) = 65536 + refusalNumber r
 
 -- a plain call over the bars of the bytes
 unfoldable pub exportOf : ℕ → ℕ → Thresholds → List ℕ → ℕ
-exportOf k di t bytes = resultOf (plainAnswer k di t (eqb (length bytes % 32) 0) (barsOf (decodedPrices bytes)))
+exportOf k di t bytes = resultOf (plainAnswer k di t (eqb (length bytes % barBytes) 0) (barsOf (decodedPrices bytes)))
 
 -- ---- the sum of those eight bytes written out, as the code has it
 abbrev pub wordAt : List ℕ → ℕ → ℕ

@@ -6,3 +6,4 @@ pub mod Threshold
 pub mod Table
 pub mod Refusal
 pub mod Export
+pub mod SameDojis

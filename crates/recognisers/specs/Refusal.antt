@@ -132,6 +132,13 @@ unfoldable pub plainAnswer : ℕ → ℕ → Thresholds → Bool → List Bar �
 plainAnswer k di t whole history =
     answerTo (plainVerdict k di t whole (length history)) (Labels (pairAt k t (length history) history di))
 
+-- its number, and its codes: none of a refusal
+abbrev pub plainNumber : ℕ → ℕ → Thresholds → Bool → List Bar → ℕ
+plainNumber k di t whole history = verdictNumber (plainVerdict k di t whole (length history))
+
+abbrev pub plainCodes : ℕ → ℕ → Thresholds → Bool → List Bar → List ℕ
+plainCodes k di t whole history = leaves (plainVerdict k di t whole (length history)) [] (codesOf (pairAt k t (length history) history di ∷ []))
+
 -- over lent prices, four to a bar
 unfoldable pub recogniseOf : ℕ → ℕ → Thresholds → List Float → Answer
 recogniseOf k di t prices = plainAnswer k di t (eqb (length prices % 4) 0) (barsOf prices)

@@ -1,6 +1,10 @@
 // The plain call, and why a call is refused.
 ghost use mathlib.Core.Path.{_≡_};
-ghost use Rattle.recognisers.specs.Refusal.{refusalNumber, plainVerdict, recogniseOf, answerIn, ordinalIn};
+ghost use Prim.Native.Nat.{_%_};
+ghost use lib.Dec.{eqb};
+ghost use lib.ListN.{length};
+ghost use Rattle.measures.specs.Bar.{barsOf};
+ghost use Rattle.recognisers.specs.Refusal.{refusalNumber, plainVerdict, plainNumber, plainCodes, recogniseOf, refusalIn, codesIn, answerIn, ordinalIn};
 use rule_table::table;
 use rule_table::thresholds::Thresholds;
 use rule_types::counts;
@@ -105,7 +109,9 @@ pub fn plain_verdict(k: u32, di: u32, t: Thresholds, whole: bool, count: usize) 
 
 // The plain call: the pair of a recogniser at an offset of a history of lent prices, or the first refusal that is true.
 pub fn recognise(k: u32, di: u32, t: Thresholds, prices: &[f64]) -> Answer
-    ensures { λ r. ⌜ r ≡ recogniseOf k di t (now (prices .entry)) ⌝ }
+    ensures answer { λ r. ⌜ r ≡ recogniseOf k di t (now (prices .entry)) ⌝ }
+    ensures number { λ r. ⌜ refusalIn r ≡ plainNumber k di t (eqb (length (now (prices .entry)) % 4) 0) (barsOf (now (prices .entry))) ⌝ }
+    ensures codes { λ r. ⌜ codesIn r ≡ plainCodes k di t (eqb (length (now (prices .entry)) % 4) 0) (barsOf (now (prices .entry))) ⌝ }
 {
     let len = measures::count(prices);
     match plain_verdict(k, di, t, prices.len() % 4 == 0, len) {

@@ -1,4 +1,4 @@
-// The export for a host program: numbers, thresholds and bars as bytes, 32 to a bar, each price's bits little-endian.
+// The export for a host program: numbers, thresholds and bars as bytes, each price's bits little-endian.
 ghost use mathlib.Core.Path.{_≡_};
 ghost use mathlib.Core.Bool.{cond};
 ghost use Prim.Native.Nat.{_+_, _*_, _≤_, _<_};
@@ -20,6 +20,12 @@ use rule_table::thresholds::Thresholds;
 use rule_types::counts;
 use rule_types::label::Pair;
 use rule_types::label::code;
+
+// The bytes of a bar: eight for each price.
+pub const BAR_BYTES: usize = 32;
+
+// The prices of the gate's window.
+const GATE_PRICES: usize = 4 * counts::QUARTER_BARS;
 
 fn wide(b: u8) -> u64
     ensures { λ r. ⌜ (r ≡ b) × (r < 256) ⌝ }
@@ -82,10 +88,10 @@ fn decode(s: &[u8], di: usize, n: usize, out: &mut [f64]) -> usize
     requires { ⌜ 4 * n ≤ length (now out) ⌝ }
     ensures { λ r. ⌜ (r ≤ 4 * n) × (barsOf (take r (now (out .exit))) ≡ windowOf (barsOf (decodedPrices (now (s .entry)))) di n) ⌝ }
 {
-    let p = measures::up_to(s.len() / 32, di);
+    let p = measures::up_to(s.len() / BAR_BYTES, di);
     let m = measures::least(n, p);
     let len = 4 * m;
-    prices_at(s, 32 * (p - m), len, out);
+    prices_at(s, BAR_BYTES * (p - m), len, out);
     len
 }
 
@@ -104,12 +110,12 @@ pub fn gate_bars(k: u32) -> usize
 fn pair_at(k: u32, t: Thresholds, di: u32, s: &[u8]) -> Pair
     ensures { λ r. ⌜ r ≡ pairAt k t (length (barsOf (decodedPrices (now (s .entry))))) (barsOf (decodedPrices (now (s .entry)))) di ⌝ }
 {
-    let len = s.len() / 32;
+    let len = s.len() / BAR_BYTES;
     let p = measures::up_to(len, di as usize);
     // room for the 22 bars that a rule can see, and for the 20 of the gate
-    let mut w = [0.0; 88];
+    let mut w = [0.0; counts::REACH_PRICES];
     let w_len = decode(s, di as usize, counts::REACH_BARS, &mut w);
-    let mut gate = [0.0; 80];
+    let mut gate = [0.0; GATE_PRICES];
     let gate_len = decode(s, counts::GATE_END, gate_bars(k), &mut gate);
     table::judge(k, t, len, p, &w[..w_len], &gate[..gate_len])
 }
@@ -172,7 +178,7 @@ pub extern "C" fn jcc_label(
         th14,
     );
     let n = bars.len();
-    match call::plain_verdict(recogniser, offset, t, n % 32 == 0, n / 32) {
+    match call::plain_verdict(recogniser, offset, t, n % BAR_BYTES == 0, n / BAR_BYTES) {
         Verdict::Denied(why) => answer_number(Answer::Refused(why)),
         Verdict::Accepted => { answer_number(Answer::Labels(pair_at(recogniser, t, offset, bars))) }
     }

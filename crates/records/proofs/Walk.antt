@@ -37,12 +37,3 @@ module _ {M : Type 1} {𝓤 : URA M} {H : Heap 𝓤} {A : Atoms 𝓤} (W : Given
 
   pub past : {P : Fml} → Step (Go {0}) W (‵ rest ∷ Γ) G (‵ (fsep P rest) ∷ Γ) G
   past = record { go = λ s. fsplit ! $ drop ! $ s }
-
-module _ {M : Type 1} {𝓤 : URA M} {H : Heap 𝓤} {A : Atoms 𝓤} (W : Given 𝓤 H A) {Γ : List (Item 𝓤)} {G : Goal 𝓤 H} where
-  -- the place of a price that was taken out of a row has another now: it is put in, and what the old one owned is let go
-  pub price-put : {old : Fml} (xs : List Float) (i : ℕ) (x : Float) (b : ℕ) → i < length xs → Is f64 x (vfloat binary64 x ∷ [])
-      → Step (Go {0}) W (‵ (row f64 fullShare (set xs i x) b 0) ∷ Γ) G (‵ (cellAt fullShare (f64 .mir) (vfloat binary64 x ∷ []) b (place 8 0 i)) ∷ ‵ old ∷ ‵ (others (shares f64) fullShare xs i b 0) ∷ Γ) G
-  price-put xs i x b inside is = record {
-    go = λ s. move ! (1 ∷ []) $ drop ! $ owned ! f64 (Is f64) (float-makes 𝓤 H A W binary64) x (vfloat binary64 x ∷ []) is $ move ! (1 ∷ 0 ∷ []) $
-        elem-put ! f64 fullShare xs i x (vfloat binary64 x ∷ []) b 0 inside $ s;
-  }

@@ -5,5 +5,5 @@ use lib.ListN.{take}
 use Rattle.measures.specs.Bar.{Bar, barsOf}
 use Rattle.records.specs.declared.Window.{Window}
 
-unfoldable pub barsIn : Window → List Bar
-barsIn w = barsOf (take (4 * w .count) (w .prices))
+unfoldable pub windowBars : Window → List Bar
+windowBars w = barsOf (take (4 * w .count) (w .prices))

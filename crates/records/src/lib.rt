@@ -13,9 +13,9 @@ ghost use Rattle.recognisers.specs.declared.call.Answer.the-variants.{Labels};
 ghost use Rattle.recognisers.specs.Number.{reachBars};
 ghost use Rattle.recognisers.specs.Threshold.{thresholdsOf};
 ghost use Rattle.recognisers.specs.Table.{judgeOf};
-ghost use Rattle.recognisers.specs.Refusal.{plainVerdict, answerTo, plainAnswer};
+ghost use Rattle.recognisers.specs.Refusal.{plainVerdict, answerTo, plainAnswer, plainNumber, plainCodes, refusalIn, codesIn};
 ghost use Rattle.recognisers.specs.Export.{resultOf};
-ghost use Rattle.records.specs.Held.{barsIn};
+ghost use Rattle.records.specs.Held.{windowBars};
 use measures::Bar;
 use recognisers::Answer;
 use recognisers::Pair;
@@ -26,9 +26,9 @@ use recognisers::counts;
 use recognisers::export;
 use recognisers::table;
 
-// The prices of up to 22 bars, as many as a rule can see.
+// The prices of the bars that a rule can see, as many as there are.
 struct Window {
-    prices: [f64; 88],
+    prices: [f64; counts::REACH_PRICES],
     count: usize,
 }
 
@@ -42,7 +42,7 @@ fn empty() -> Window
     ensures { λ r. ⌜ r .count ≡ 0 ⌝ }
 {
     Window {
-        prices: [0.0; 88],
+        prices: [0.0; counts::REACH_PRICES],
         count: 0,
     }
 }
@@ -50,17 +50,12 @@ fn empty() -> Window
 // The window with the bars from a place on, up to the one before another. No value of a window's size is copied in a turn.
 fn gathered(bars: &[Bar], mut i: usize, to: usize, w: Window) -> Window
     requires { ⌜ (to ≤ length (now bars)) × (w .count + (to - i) ≤ reachBars) ⌝ }
-    ensures { λ r. ⌜ (r .count ≡ w .count + (to - i)) × (barsIn r ≡ barsIn w ++ take (to - i) (drop i (now (bars .entry)))) ⌝ }
+    ensures { λ r. ⌜ (r .count ≡ w .count + (to - i)) × (windowBars r ≡ windowBars w ++ take (to - i) (drop i (now (bars .entry)))) ⌝ }
 {
     let mut prices = w.prices;
     let mut count = w.count;
     while i < to {
-        let b = bars[i];
-        let at = 4 * count;
-        prices[at] = b.open;
-        prices[at + 1] = b.close;
-        prices[at + 2] = b.high;
-        prices[at + 3] = b.low;
+        measures::put_bar(bars[i], &mut prices, count);
         count += 1;
         i += 1;
     }
@@ -84,7 +79,7 @@ fn span_of(len: usize, di: usize, n: usize) -> Span
 // The last n bars up to the judged one.
 fn window_of(bars: &[Bar], di: usize, n: usize) -> Window
     requires { ⌜ n ≤ reachBars ⌝ }
-    ensures { λ r. ⌜ (r .count ≤ reachBars) × (barsIn r ≡ windowOf (now (bars .entry)) di n) ⌝ }
+    ensures { λ r. ⌜ (r .count ≤ reachBars) × (windowBars r ≡ windowOf (now (bars .entry)) di n) ⌝ }
 {
     let s = span_of(bars.len(), di, n);
     gathered(bars, s.from, s.to, empty())
@@ -93,7 +88,7 @@ fn window_of(bars: &[Bar], di: usize, n: usize) -> Window
 // The pair at an offset of a history of len bars, out of the judged bar's window and the gate's.
 fn pair_in(k: u32, t: Thresholds, len: usize, di: u32, w: Window, gate: Window) -> Pair
     requires { ⌜ (w .count ≤ reachBars) × (gate .count ≤ reachBars) ⌝ }
-    ensures { λ r. ⌜ r ≡ judgeOf k t len (upTo len di) (barsIn w) (barsIn gate) ⌝ }
+    ensures { λ r. ⌜ r ≡ judgeOf k t len (upTo len di) (windowBars w) (windowBars gate) ⌝ }
 {
     let p = measures::up_to(len, di as usize);
     let w_prices = w.prices;
@@ -106,7 +101,7 @@ fn pair_in(k: u32, t: Thresholds, len: usize, di: u32, w: Window, gate: Window) 
 // The answer of a plain call over a history of len bars, out of those windows.
 fn answer(k: u32, di: u32, t: Thresholds, len: usize, w: Window, gate: Window) -> Answer
     requires { ⌜ (w .count ≤ reachBars) × (gate .count ≤ reachBars) ⌝ }
-    ensures { λ r. ⌜ r ≡ answerTo (plainVerdict k di t true len) (Labels (judgeOf k t len (upTo len di) (barsIn w) (barsIn gate))) ⌝ }
+    ensures { λ r. ⌜ r ≡ answerTo (plainVerdict k di t true len) (Labels (judgeOf k t len (upTo len di) (windowBars w) (windowBars gate))) ⌝ }
 {
     match call::plain_verdict(k, di, t, true, len) {
         Verdict::Denied(why) => Answer::Refused(why),
@@ -116,7 +111,8 @@ fn answer(k: u32, di: u32, t: Thresholds, len: usize, w: Window, gate: Window) -
 
 // The plain call: as recognisers::recognise, which is lent prices. Records are whole bars, so that refusal 4 can't arise.
 pub fn recognise_bars(k: u32, di: u32, t: Thresholds, bars: &[Bar]) -> Answer
-    ensures { λ r. ⌜ r ≡ plainAnswer k di t true (now (bars .entry)) ⌝ }
+    ensures { λ r. ⌜ (r ≡ plainAnswer k di t true (now (bars .entry)))
+        × ((refusalIn r ≡ plainNumber k di t true (now (bars .entry))) × (codesIn r ≡ plainCodes k di t true (now (bars .entry)))) ⌝ }
 {
     let w = window_of(bars, di as usize, counts::REACH_BARS);
     let gate = window_of(bars, counts::GATE_END, export::gate_bars(k));

@@ -4,14 +4,12 @@ use mathlib.Core.Bool.{Bool, cond, _&&_}
 use mathlib.Core.List.{List}
 use lib.Dec.{eqb}
 use lib.ListN.{length, getD}
+use Rattle.recognisers.specs.Export.{barBytes}
 use Rattle.replay.specs.Hex.{payloadOf}
 use Rattle.replay.specs.declared.command.Command.{Command}
 use Rattle.replay.specs.declared.command.Command.the-variants.{New, Bar, Thresholds, Call, Bad}
 
--- how many bytes a bar, the thresholds and a call are
-abbrev pub barSize : ℕ
-barSize = 32
-
+-- how many bytes the thresholds and a call are
 abbrev pub thresholdsSize : ℕ
 thresholdsSize = 60
 
@@ -31,4 +29,4 @@ hasForm line letter size =
 unfoldable pub commandOf : List ℕ → Command
 commandOf line =
     cond (isNew line) New
-    (cond (hasForm line 98 barSize) Bar (cond (hasForm line 116 thresholdsSize) Thresholds (cond (hasForm line 99 callSize) Call Bad)))
+    (cond (hasForm line 98 barBytes) Bar (cond (hasForm line 116 thresholdsSize) Thresholds (cond (hasForm line 99 callSize) Call Bad)))

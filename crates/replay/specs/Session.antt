@@ -6,7 +6,8 @@ use mathlib.Core.Path.{_≡_}
 use lib.Dec.{leb, ltb}
 use lib.ListN.{length}
 use Rattle.replay.specs.Buffer.{capacity, content}
-use Rattle.replay.specs.Command.{barSize, commandOf}
+use Rattle.recognisers.specs.Export.{barBytes}
+use Rattle.replay.specs.Command.{commandOf}
 use Rattle.replay.specs.Hex.{payloadOf}
 use Rattle.replay.specs.Thresholds.{thresholdsOf}
 use Rattle.replay.specs.declared.command.Command.{Command}
@@ -16,7 +17,7 @@ use Rattle.rule_table.specs.declared.thresholds.Thresholds as declared
 
 -- one bar more, where there is room
 unfoldable pub withBar : List ℕ → List ℕ → List ℕ
-withBar history bar = cond (leb (length history + barSize) capacity) (history ++ bar) history
+withBar history bar = cond (leb (length history + barBytes) capacity) (history ++ bar) history
 
 -- the history after a command, with its line's bytes
 unfoldable pub historyAfter : Command → List ℕ → List ℕ → List ℕ
@@ -37,7 +38,7 @@ thresholdsAfter Bad payload t = t
 -- a command is refused where it is none, and where it is a bar for which the history has no room
 unfoldable pub isRefused : Command → List ℕ → Bool
 isRefused New history = false
-isRefused Bar history = ltb capacity (length history + barSize)
+isRefused Bar history = ltb capacity (length history + barBytes)
 isRefused Thresholds history = false
 isRefused Call history = false
 isRefused Bad history = true

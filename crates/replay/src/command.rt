@@ -4,6 +4,7 @@ ghost use Prim.Native.Nat.{_≤_};
 ghost use Rattle.replay.specs.Command.{isNew, hasForm, commandOf};
 ghost use Rattle.replay.specs.Hex.{longest};
 use crate::hex::decode;
+use recognisers::export::BAR_BYTES;
 
 pub enum Command {
     New,
@@ -13,9 +14,7 @@ pub enum Command {
     Bad,
 }
 
-// How many bytes a bar, the thresholds and a call are.
-pub const BAR: usize = 32;
-
+// How many bytes the thresholds and a call are.
 const THRESHOLDS: usize = 60;
 
 const CALL: usize = 8;
@@ -53,7 +52,7 @@ pub fn parse(line: &[u8]) -> Command
     if is_new(line) {
         return Command::New;
     }
-    if has_form(line, b'b', BAR) {
+    if has_form(line, b'b', BAR_BYTES) {
         return Command::Bar;
     }
     if has_form(line, b't', THRESHOLDS) {

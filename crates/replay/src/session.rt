@@ -5,14 +5,13 @@ ghost use mathlib.Core.List.{[]};
 ghost use mathlib.Core.Path.{_≡_};
 ghost use lib.ListN.{length, take, replicate};
 ghost use Rattle.replay.specs.Buffer.{capacity, content};
-ghost use Rattle.replay.specs.Command.{barSize};
+ghost use Rattle.recognisers.specs.Export.{barBytes};
 ghost use Rattle.replay.specs.Hex.{longest};
 ghost use Rattle.replay.specs.Line.{EndsAt};
 ghost use Rattle.replay.specs.Session.{withBar, Keeps, Executes};
 ghost use Rattle.replay.specs.Thresholds.{thresholdsOf};
 use crate::buffer::Buffer;
 use crate::buffer::CAPACITY;
-use crate::command::BAR;
 use crate::command::Command;
 use crate::command::parse;
 use crate::hex::LONGEST;
@@ -21,6 +20,7 @@ use crate::number::u32_at;
 use crate::output::Output;
 use crate::thresholds::read;
 use recognisers::Thresholds;
+use recognisers::export::BAR_BYTES;
 
 pub struct Session {
     // The line that has begun, and how many lines have ended.
@@ -80,15 +80,15 @@ impl Session {
 
     // A bar for which there is no room is a bad line.
     fn append_bar(self, bytes: [u8; LONGEST]) -> Self
-        ensures { λ r. ⌜ content (r .history) ≡ withBar (content (self .history)) (take barSize bytes) ⌝ }
+        ensures { λ r. ⌜ content (r .history) ≡ withBar (content (self .history)) (take barBytes bytes) ⌝ }
         ensures { λ r. ⌜ r .thresholds ≡ self .thresholds ⌝ }
-        ensures { λ r. ⌜ (capacity < length (content (self .history)) + barSize → r .reading ≡ false) ⌝ }
+        ensures { λ r. ⌜ (capacity < length (content (self .history)) + barBytes → r .reading ≡ false) ⌝ }
     {
         let history = self.history;
-        if CAPACITY - history.size() < BAR {
+        if CAPACITY - history.size() < BAR_BYTES {
             return self.refuse();
         }
-        let longer = history.append(&bytes[..BAR]);
+        let longer = history.append(&bytes[..BAR_BYTES]);
         let mut next = self;
         next.history = longer;
         next

@@ -4,7 +4,7 @@ use mathlib.Core.Bool.{Bool, cond, _&&_}
 use mathlib.Core.List.{List, [], _∷_, map}
 use lib.Dec.{ltb, leb, eqb}
 use lib.ListN.{length, getD, take}
-use Rattle.measures.specs.Bar.{Bar}
+use Rattle.measures.specs.Bar.{Bar, dojiAbove}
 use Rattle.measures.specs.declared.folds.Column.the-variants.{Close}
 use Rattle.measures.specs.declared.folds.Extremes.{Extremes}
 use Rattle.measures.specs.Window.{upTo, newest, windowOf, backOf}
@@ -12,11 +12,11 @@ use Rattle.measures.specs.Fold.{columnOf, highestOf}
 use Rattle.rule_types.specs.declared.label.Pair.{Pair}
 use Rattle.rule_table.specs.declared.thresholds.Thresholds.{Thresholds}
 use Rattle.rule_types.specs.Label.{codeOf, pairA, pairB}
-use Rattle.rule_types.specs.Number.{recognisers, gated, reachBars, quarterBars, gateEnd}
+use Rattle.rule_types.specs.Number.{recognisers, gated, reachBars, quarterBars, gateEnd, wholeOf}
 use Rattle.quarter_rules.specs.declared.Quarter.{Quarter}
 use Rattle.quarter_rules.specs.QuarterRule.{quarterIn, quarterExtremes, sanXingXian, tenMo, fenShouXian, zhuHuoXian, fanJiXian}
 use Rattle.bar_rules.specs.BarRule.{tenCloses, wuYunGaiDing, ciTou, sanFaV20221115, yunXian, pingTou, twoCrow, gateShut, threeCrow, gapYinYang}
-use Rattle.star_rules.specs.StarRule.{xingXian, szx, sanSzx}
+use Rattle.star_rules.specs.StarRule.{xingXian, szxBy, szx, sanSzxBy, sanSzx}
 use Rattle.growing_rules.specs.GrowingRule.{sanFaV20221118, taXing}
 
 -- all that the rules see of a window that ends with the judged bar: b1, the judged bar, to b6; Lmax and Lmin of the window of 20 bars; the ten
@@ -87,20 +87,20 @@ rows =
 abbrev pub noRow : Row
 noRow = row 0 pairA (λ t deep s. pairA)
 
-unfoldable pub rowOf : ℕ → Row
-rowOf k = getD rows k noRow
+unfoldable pub tableRow : ℕ → Row
+tableRow k = getD rows k noRow
 
 -- the short pair
 abbrev pub shortOf : ℕ → Pair
-shortOf k = rowOf k .short
+shortOf k = tableRow k .short
 
 -- the rule of recogniser k; of 12, A where its gate is shut, which reads len and a window of its own
 abbrev pub ruleOf : ℕ → Thresholds → ℕ → Bool → List Bar → List Bar → Pair
-ruleOf k t len deep w gate = cond (eqb k gated && gateShut len gate (seenOf w .b3)) pairA (rowOf k .rule t deep (seenOf w))
+ruleOf k t len deep w gate = cond (eqb k gated && gateShut len gate (seenOf w .b3)) pairA (tableRow k .rule t deep (seenOf w))
 
 -- recogniser k over the window w that ends with the judged bar, of which p bars lie up to it: below the p given, the short pair, else the rule
 unfoldable pub judgeOf : ℕ → Thresholds → ℕ → ℕ → List Bar → List Bar → Pair
-judgeOf k t len p w gate = cond (ltb p (rowOf k .from)) (shortOf k) (ruleOf k t len (leb reachBars p) w gate)
+judgeOf k t len p w gate = cond (ltb p (tableRow k .from)) (shortOf k) (ruleOf k t len (leb reachBars p) w gate)
 
 -- all bars of a history up to the judged one
 abbrev pub allUpTo : List Bar → ℕ → List Bar
@@ -109,6 +109,16 @@ allUpTo history di = take (upTo (length history) di) history
 -- the pair at offset di of a history of len bars, of which at least the newest are given: the rules over all bars up to the judged one
 unfoldable pub pairAt : ℕ → Thresholds → ℕ → List Bar → ℕ → Pair
 pairAt k t len history di = judgeOf k t len (upTo len di) (allUpTo history di) (windowOf history gateEnd quarterBars)
+
+-- 13 and 14 there as 01 has them, whose th counts units
+abbrev pub szxIn01 : ℕ → ℕ → List Bar → ℕ → Pair
+szxIn01 th len history di =
+    let w = allUpTo history di in cond (ltb (upTo len di) 11) pairA (szxBy (dojiAbove (wholeOf th)) (backOf w 1) (backOf w 2))
+
+abbrev pub sanSzxIn01 : ℕ → ℕ → List Bar → ℕ → Pair
+sanSzxIn01 th len history di =
+    let w = allUpTo history di in
+    cond (ltb (upTo len di) 8) pairB (sanSzxBy (dojiAbove (wholeOf th)) (backOf w 1) (backOf w 2) (backOf w 3) (backOf w 4) (backOf w 5))
 
 -- ---- all eighteen at once
 

@@ -5,7 +5,7 @@ ghost use lib.Dec.{ltb, leb};
 ghost use Rattle.measures.specs.Bar.{barsOf};
 ghost use Prim.Native.Nat.{_<_};
 ghost use Rattle.rule_types.specs.Number.{recognisers, reachBars};
-ghost use Rattle.rule_table.specs.Table.{rowOf, ruleOf, judgeOf, pairAt, pairsAt, rulesOf, pairsOf};
+ghost use Rattle.rule_table.specs.Table.{tableRow, ruleOf, judgeOf, pairAt, pairsAt, rulesOf, pairsOf};
 use crate::thresholds::Thresholds;
 use measures::back;
 use quarter_rules::quarter_extremes;
@@ -48,7 +48,7 @@ const SHORT_IS_B: [bool; RECOGNISERS] = [
 // The short pair of recogniser k below the p given, else the rule's.
 fn row(k: usize, p: usize, full: Pair) -> Pair
     requires { ⌜ k < recognisers ⌝ }
-    ensures { λ r. ⌜ r ≡ cond (ltb p (rowOf k .from)) (rowOf k .short) full ⌝ }
+    ensures { λ r. ⌜ r ≡ cond (ltb p (tableRow k .from)) (tableRow k .short) full ⌝ }
 {
     let short = pick_pair(SHORT_IS_B[k], pair_b(), pair_a());
     pick_pair(p < FROM[k], short, full)

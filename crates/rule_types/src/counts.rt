@@ -12,6 +12,9 @@ pub const GATED: u32 = 12;
 // The newest bars up to the judged one that a rule can see; and the p from which the quarter holds.
 pub const REACH_BARS: usize = 22;
 
+// Their prices.
+pub const REACH_PRICES: usize = 4 * REACH_BARS;
+
 // The quarter's window.
 pub const QUARTER_BARS: usize = 20;
 

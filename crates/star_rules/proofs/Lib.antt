@@ -1,1 +1,1 @@
-pub mod SameDojis
+pub mod Tenth

@@ -1,2 +1,1 @@
 pub mod StarRule
-pub mod SameDojis

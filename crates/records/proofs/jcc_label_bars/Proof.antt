@@ -42,6 +42,7 @@ use Rattle.measures.specs.Bar.{Bar}
 use Rattle.recognisers.specs.Threshold.{Thresholds, thresholdsOf}
 use Rattle.recognisers.specs.declared.call.Answer.{Answer}
 use Rattle.recognisers.specs.Refusal.{plainAnswer}
+use Rattle.recognisers.proofs.AnswerLaws.{Answers}
 use Rattle.recognisers.specs.Export.{resultOf}
 use Rattle.records.proofs.Walk.{own, own-u32, own-f64, past}
 use Rattle.prices.proofs.bars.Bar as T
@@ -157,8 +158,8 @@ module _ {M : Type 1} (𝓤 : URA M) (H : Heap 𝓤) (A : Atoms 𝓤) (W : Given
       qed W (‵ Own ∷ (‵ (flft κ q) ⊛ ‵ ftrue) ∷ []) ∵ nothing ! $ move ! (1 ∷ 0 ∷ []) $ fjoin ! $ own W S.the-row (LL.makes S.the-type S′.the-plain 𝓤 H A) t (u ∷ []) is $
       own-u32 W di g-di $ own-u32 W k g-k $ move ! (1 ∷ 0 ∷ []) $ join ! $ frame ! $ done !
 
-  recognised : (t : Thresholds) (a : Answer) → ent 𝓤 (ensured 𝓤 H A recognise.ended (recognise.clauses 𝓤 H A mem run) (κ, tt) (k, (di, (t, (p, tt)))) tt a) (fact 𝓤 (a ≡ plainAnswer k di t true (p .now)))
-  recognised t a = exE 𝓤 _ (λ ws. snd∗ 𝓤 (sem 𝓤 H A (lasts recognise.ended (κ, tt) (k, (di, (t, (p, tt)))) ws)) (fact 𝓤 (a ≡ plainAnswer k di t true (p .now))))
+  recognised : (t : Thresholds) (a : Answer) → ent 𝓤 (ensured 𝓤 H A recognise.ended (recognise.clauses 𝓤 H A mem run) (κ, tt) (k, (di, (t, (p, tt)))) tt a) (fact 𝓤 (Answers k di t true (p .now) a))
+  recognised t a = exE 𝓤 _ (λ ws. snd∗ 𝓤 (sem 𝓤 H A (lasts recognise.ended (κ, tt) (k, (di, (t, (p, tt)))) ws)) (fact 𝓤 (Answers k di t true (p .now) a)))
 
   exits : (r : ℕ) (u : Val) → r ≡ resultOf (plainAnswer k di made true (p .now)) → ent 𝓤 (⋆ 𝓤 H A (‵ (u32 .own r (u ∷ [])) ∷ (‵ (flft κ q) ⊛ ‵ ftrue) ∷ ‵ Own ∷ [])) (Post u)
   exits r u e =
@@ -198,7 +199,7 @@ module _ {M : Type 1} (𝓤 : URA M) (H : Heap 𝓤) (A : Atoms 𝓤) (W : Given
         calls-at ! fm (Recognise 𝓤 H A mem run) known₂ (to-recognise t u)
         (and-then ! (load ! (from ! (stop !)) (look ! 37 refl)) (and-then ! (load ! (from ! (stop !)) (look ! 35 refl)) (and-then ! (load ! (from ! (stop !)) (look ! 5 refl)) (and-then ! (load ! (from ! (stop !)) (look ! 7 refl)) (no-more !))))) (λ v.
         use1 W (later (some (λ (a : Answer). ((‵ (flft κ q) ⊛ ‵ ftrue) ⊛ ‵ (R.the-row .own a (v ∷ []))) ⊛ raw (ensured 𝓤 H A recognise.ended (recognise.clauses 𝓤 H A mem run) (κ, tt) (k, (di, (t, (p, tt)))) tt a)))) (id⊢ 𝓤 _) $ await ! tt $ pick ! (λ a.
-        split ! $ move ! (1 ∷ []) $ use1 W (raw (fact 𝓤 (a ≡ plainAnswer k di t true (p .now)))) (recognised t a) $ heard ! (a ≡ plainAnswer k di t true (p .now)) (λ e₂. split ! $ move ! (1 ∷ []) $
+        split ! $ move ! (1 ∷ []) $ use1 W (raw (fact 𝓤 (Answers k di t true (p .now) a))) (recognised t a) $ heard ! (Answers k di t true (p .now) a) (λ e₂. split ! $ move ! (1 ∷ []) $
         peeks ! R.the-row (Is R.the-row) (shows 𝓤 H A R.the-row) a (v ∷ []) (λ is₂.
         land ! (from ! (stop !)) (init ! 4 refl (EL.lawful R.the-type R′.the-laws 𝓤 H A W tt .typed a _ is₂ .0)) $ drop ! $
         use0 W (raw (Number 𝓤 H A mem run .pre (to-number 𝓤 H A mem run a v))) (goes-number 𝓤 H A mem run W a v is₂) $
@@ -214,7 +215,7 @@ module _ {M : Type 1} (𝓤 : URA M) (H : Heap 𝓤) (A : Atoms 𝓤) (W : Given
         move ! (30 ∷ 31 ∷ []) $ free1 ! $ move ! (28 ∷ 29 ∷ []) $ free1 ! $ move ! (26 ∷ 27 ∷ []) $ free1 ! $ move ! (24 ∷ 25 ∷ []) $ free1 ! $ move ! (22 ∷ 23 ∷ []) $ free1 ! $
         move ! (20 ∷ 21 ∷ []) $ free1 ! $ move ! (18 ∷ 19 ∷ []) $ free1 ! $ move ! (16 ∷ 17 ∷ []) $ free1 ! $ move ! (14 ∷ 15 ∷ []) $ free1 ! $ move ! (12 ∷ 13 ∷ []) $ free1 ! $
         move ! (10 ∷ 11 ∷ []) $ free1 ! $ move ! (8 ∷ 9 ∷ []) $ free1 ! $ move ! (6 ∷ 7 ∷ []) $ free1 ! $ move ! (4 ∷ 5 ∷ []) $ free1 ! $ free0 ! $
-        keep ! (0 ∷ 1 ∷ 2 ∷ []) $ by ! (exits r v′ (e₃ ∙ ap resultOf (e₂ ∙ ap (λ (t′ : Thresholds). plainAnswer k di t′ true (p .now)) e₁))))))))))))))))))))))))))))))))))
+        keep ! (0 ∷ 1 ∷ 2 ∷ []) $ by ! (exits r v′ (e₃ ∙ ap resultOf (e₂ .0 ∙ ap (λ (t′ : Thresholds). plainAnswer k di t′ true (p .now)) e₁))))))))))))))))))))))))))))))))))
 
 module _ {M : Type 1} (𝓤 : URA M) (H : Heap 𝓤) (A : Atoms 𝓤) (W : Given 𝓤 H A) (mem : Memory → SProp 𝓤) (run : Routine → Fun 𝓤) (𝓣 : Tables 𝓤 H)
     (known₁ : Triple 𝓤 (𝓣 .C new-def.name) (New 𝓤 H A mem run)) (known₂ : Triple 𝓤 (𝓣 .C recognise-def.name) (Recognise 𝓤 H A mem run)) (known₃ : Triple 𝓤 (𝓣 .C number-def.name) (Number 𝓤 H A mem run)) where

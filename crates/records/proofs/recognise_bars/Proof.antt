@@ -47,9 +47,10 @@ use Rattle.recognisers.specs.declared.call.Answer.{Answer}
 use Rattle.recognisers.specs.declared.call.Answer.the-variants.{Labels}
 use Rattle.recognisers.specs.Number.{gated, reachBars, quarterBars, gateEnd}
 use Rattle.recognisers.specs.Table.{judgeOf}
-use Rattle.recognisers.specs.Refusal.{answerTo, plainVerdict, plainAnswer}
+use Rattle.recognisers.specs.Refusal.{answerTo, plainVerdict}
+use Rattle.recognisers.proofs.AnswerLaws.{Answers, plain-values}
 use Rattle.records.specs.declared.Window.{Window}
-use Rattle.records.specs.Held.{barsIn}
+use Rattle.records.specs.Held.{windowBars}
 use Rattle.records.proofs.HeldLaws.{answer-held}
 use Rattle.records.proofs.Walk.{own, own-u32, own-usize}
 use Rattle.prices.proofs.bars.Bar as T
@@ -78,13 +79,13 @@ stayed = (stay-none (λ _. u32) yes, (stay-none (λ _. u32) yes, (stay-none (λ 
 
 -- what the callees ensure
 abbrev Held : List Bar → ℕ → ℕ → Window → Type 0
-Held bars di n r = (r .count ≤ reachBars) × (barsIn r ≡ windowOf bars di n)
+Held bars di n r = (r .count ≤ reachBars) × (windowBars r ≡ windowOf bars di n)
 
 abbrev Gated : ℕ → ℕ → Type 0
 Gated k n = (n ≡ cond (eqb k gated) quarterBars 0) × (n ≤ quarterBars)
 
-abbrev answerIn : ℕ → ℕ → Thresholds → ℕ → Window → Window → Answer
-answerIn k di t len w gate = answerTo (plainVerdict k di t true len) (Labels (judgeOf k t len (upTo len di) (barsIn w) (barsIn gate)))
+abbrev heldAnswer : ℕ → ℕ → Thresholds → ℕ → Window → Window → Answer
+heldAnswer k di t len w gate = answerTo (plainVerdict k di t true len) (Labels (judgeOf k t len (upTo len di) (windowBars w) (windowBars gate)))
 
 module _ {M : Type 1} (𝓤 : URA M) (H : Heap 𝓤) (A : Atoms 𝓤) (mem : Memory → SProp 𝓤) (run : Routine → Fun 𝓤) where
   -- the contracts that the proof cites
@@ -94,8 +95,8 @@ module _ {M : Type 1} (𝓤 : URA M) (H : Heap 𝓤) (A : Atoms 𝓤) (mem : Mem
   abbrev GateBars : Contract 𝓤
   GateBars = tripleOf 𝓤 H A bars.signature (bars.spec 𝓤 H A mem run)
 
-  abbrev Answers : Contract 𝓤
-  Answers = tripleOf 𝓤 H A answer.signature (answer.spec 𝓤 H A mem run)
+  abbrev AnswerOf : Contract 𝓤
+  AnswerOf = tripleOf 𝓤 H A answer.signature (answer.spec 𝓤 H A mem run)
 
 module _ {M : Type 1} (𝓤 : URA M) (H : Heap 𝓤) (A : Atoms 𝓤) (W : Given 𝓤 H A) (mem : Memory → SProp 𝓤) (run : Routine → Fun 𝓤) (κ : Lft) (q : Share) (k di : ℕ) (t : Thresholds) (ut : Val) (p : RefT (List Bar))
     (gk : k < 2 ^ 32) (gd : di < 2 ^ 32) (ist : Is S.the-row t (ut ∷ [])) (gl : Room T.the-row (length (p .now))) where
@@ -141,11 +142,11 @@ module _ {M : Type 1} (𝓤 : URA M) (H : Heap 𝓤) (A : Atoms 𝓤) (W : Given
   abbrev asked : Window → Window → ℕ × (ℕ × (Thresholds × (ℕ × (Window × (Window × Unit {0})))))
   asked w gate = (k, (di, (t, (len, (w, (gate, tt))))))
 
-  abbrev to-answer : Window → Val → Window → Val → Answers 𝓤 H A mem run .Ghost
+  abbrev to-answer : Window → Val → Window → Val → AnswerOf 𝓤 H A mem run .Ghost
   to-answer w u gate u′ = ((tt, tt, tt, asked w gate, (vint w32 k ∷ [], (vint w32 di ∷ [], (ut ∷ [], (vint w64 len ∷ [], (u ∷ [], (u′ ∷ [], tt))))))), tt)
 
   goes-answer : (w : Window) (u : Val) (gate : Window) (u′ : Val) → Is N.the-row w (u ∷ []) → Is N.the-row gate (u′ ∷ []) → (w .count ≤ reachBars) × (gate .count ≤ reachBars)
-      → ent 𝓤 (emp 𝓤) (Answers 𝓤 H A mem run .pre (to-answer w u gate u′))
+      → ent 𝓤 (emp 𝓤) (AnswerOf 𝓤 H A mem run .pre (to-answer w u gate u′))
   goes-answer w u gate u′ is is′ few =
       qed W [] ∵ says ! few $ nothing ! $ own W N.the-row (LL.makes N.the-type N′.the-plain 𝓤 H A) gate (u′ ∷ []) is′ $
       own W N.the-row (LL.makes N.the-type N′.the-plain 𝓤 H A) w (u ∷ []) is $
@@ -154,10 +155,10 @@ module _ {M : Type 1} (𝓤 : URA M) (H : Heap 𝓤) (A : Atoms 𝓤) (W : Given
       own-u32 W di gd $
       own-u32 W k gk $ nothing ! $ frame ! $ done !
 
-  answered : (w gate : Window) (r : Answer) → ent 𝓤 (ensured 𝓤 H A answer.ended (answer.clauses 𝓤 H A mem run) tt (asked w gate) tt r) (fact 𝓤 (r ≡ answerIn k di t len w gate))
-  answered w gate r = exE 𝓤 _ (λ ws. snd∗ 𝓤 (sem 𝓤 H A (lasts answer.ended tt (asked w gate) ws)) (fact 𝓤 (r ≡ answerIn k di t len w gate)))
+  answered : (w gate : Window) (r : Answer) → ent 𝓤 (ensured 𝓤 H A answer.ended (answer.clauses 𝓤 H A mem run) tt (asked w gate) tt r) (fact 𝓤 (r ≡ heldAnswer k di t len w gate))
+  answered w gate r = exE 𝓤 _ (λ ws. snd∗ 𝓤 (sem 𝓤 H A (lasts answer.ended tt (asked w gate) ws)) (fact 𝓤 (r ≡ heldAnswer k di t len w gate)))
 
-  exits : (r : Answer) (u : Val) → r ≡ plainAnswer k di t true (p .now) → ent 𝓤 (⋆ 𝓤 H A (‵ (R.the-row .own r (u ∷ [])) ∷ (‵ (flft κ q) ⊛ ‵ ftrue) ∷ ‵ Own ∷ [])) (Post u)
+  exits : (r : Answer) (u : Val) → Answers k di t true (p .now) r → ent 𝓤 (⋆ 𝓤 H A (‵ (R.the-row .own r (u ∷ [])) ∷ (‵ (flft κ q) ⊛ ‵ ftrue) ∷ ‵ Own ∷ [])) (Post u)
   exits r u e =
       qed W (‵ (R.the-row .own r (u ∷ [])) ∷ (‵ (flft κ q) ⊛ ‵ ftrue) ∷ ‵ Own ∷ []) ∵
       suffices ! _ (ends-at 𝓤 H A f.ended stayed (f.clauses 𝓤 H A mem run) W (((κ, tt), (q, tt), tt, x, at), tt) u r (tt, (tt, (tt, (tt, tt)))) (tt, (tt, (tt, (tt, tt))))) $ says ! e $
@@ -165,7 +166,7 @@ module _ {M : Type 1} (𝓤 : URA M) (H : Heap 𝓤) (A : Atoms 𝓤) (W : Given
       own-u32 W di gd $ own-u32 W k gk $ frame ! $ done !
 
   module _ (C : Calls 𝓤 H) (Λ : Loops 𝓤 H) (fm : FmC 𝓤 H (W .laws) C) (known₁ : Triple 𝓤 (C window-def.name) (WindowOf 𝓤 H A mem run)) (known₂ : Triple 𝓤 (C bars-def.name) (GateBars 𝓤 H A mem run))
-      (known₃ : Triple 𝓤 (C answer-def.name) (Answers 𝓤 H A mem run)) where
+      (known₃ : Triple 𝓤 (C answer-def.name) (AnswerOf 𝓤 H A mem run)) where
     walk : ent 𝓤 (onEntry 𝓤 H A f.signature (κ, tt) (q, tt) x at) (WpFn 𝓤 H C Λ code.function (vint w32 k ∷ vint w32 di ∷ ut ∷ v₄ ∷ []) Post)
     walk =
         let wide : di < 2 ^ 64 = omega (arith, gd) in
@@ -200,22 +201,22 @@ module _ {M : Type 1} (𝓤 : URA M) (H : Heap 𝓤) (A : Atoms 𝓤) (W : Given
         peeks ! N.the-row (Is N.the-row) (shows 𝓤 H A N.the-row) gate (u′ ∷ []) (λ is₂.
         land ! (from ! (stop !)) (init ! 9 refl (LL.lawful N.the-type N′.the-laws 𝓤 H A W .typed gate _ is₂ .0)) $ drop ! $
         assigns ! (of-opd ! (load ! (from ! (fld ! refl (stop !))) (look-in ! 12 (sub ! 1 refl (whole !))))) (from ! (stop !)) (store ! 6 refl (tt, record { fits = gl .0 })) $
-        use0 W (raw (Answers 𝓤 H A mem run .pre (to-answer w u gate u′))) (goes-answer w u gate u′ is₁ is₂ (e₁ .0, e₃ .0)) $
+        use0 W (raw (AnswerOf 𝓤 H A mem run .pre (to-answer w u gate u′))) (goes-answer w u gate u′ is₁ is₂ (e₁ .0, e₃ .0)) $
         -- [what the callee asks; the token; what the slice owns; four more; _7; …; .. _0; …]
-        calls-at ! fm (Answers 𝓤 H A mem run) known₃ (to-answer w u gate u′)
+        calls-at ! fm (AnswerOf 𝓤 H A mem run) known₃ (to-answer w u gate u′)
         (and-then ! (load ! (from ! (stop !)) (look ! 19 refl)) (and-then ! (load ! (from ! (stop !)) (look ! 17 refl)) (and-then ! (load ! (from ! (stop !)) (look ! 15 refl)) (and-then ! (load ! (from ! (stop !)) (look ! 7 refl)) (and-then ! (load ! (from ! (stop !)) (look ! 11 refl)) (and-then ! (load ! (from ! (stop !)) (look ! 9 refl)) (no-more !))))))) (λ v.
         use1 W (later (some (λ (r : Answer). (‵ ftrue ⊛ ‵ (R.the-row .own r (v ∷ []))) ⊛ raw (ensured 𝓤 H A answer.ended (answer.clauses 𝓤 H A mem run) tt (asked w gate) tt r)))) (id⊢ 𝓤 _) $ await ! tt $ pick ! (λ r.
-        split ! $ move ! (1 ∷ []) $ use1 W (raw (fact 𝓤 (r ≡ answerIn k di t len w gate))) (answered w gate r) $ heard ! (r ≡ answerIn k di t len w gate) (λ e₄. split ! $ drop ! $
+        split ! $ move ! (1 ∷ []) $ use1 W (raw (fact 𝓤 (r ≡ heldAnswer k di t len w gate))) (answered w gate r) $ heard ! (r ≡ heldAnswer k di t len w gate) (λ e₄. split ! $ drop ! $
         peeks ! R.the-row (Is R.the-row) (shows 𝓤 H A R.the-row) r (v ∷ []) (λ is₃.
         -- [the answer; the token; what the slice owns; four more; _7; …; .. _0; …]
         land ! (from ! (stop !)) (init ! 21 refl (EL.lawful R.the-type R′.the-laws 𝓤 H A W tt .typed r _ is₃ .0)) $
         returns ! (look ! 21 refl) $ forget ! 7 refl $ forget ! 9 refl $ forget ! 11 refl $ forget ! 13 refl $ forget ! 15 refl $ forget ! 17 refl $ forget ! 19 refl $ forget ! 21 refl $
         move ! (21 ∷ 22 ∷ []) $ free1 ! $ move ! (19 ∷ 20 ∷ []) $ free1 ! $ move ! (17 ∷ 18 ∷ []) $ free1 ! $ move ! (15 ∷ 16 ∷ []) $ free1 ! $ move ! (13 ∷ 14 ∷ []) $ free1 ! $ move ! (11 ∷ 12 ∷ []) $ free1 ! $
         move ! (9 ∷ 10 ∷ []) $ free1 ! $ move ! (7 ∷ 8 ∷ []) $ free1 ! $ free0 ! $
-        keep ! (0 ∷ 1 ∷ 2 ∷ []) $ by ! (exits r v (e₄ ∙ answer-held k di t (p .now) w gate n (e₂ .0) (e₁ .1) (e₃ .1)))))))))))))))))))))))))))
+        keep ! (0 ∷ 1 ∷ 2 ∷ []) $ by ! (exits r v (plain-values k di t true (p .now) r (e₄ ∙ answer-held k di t (p .now) w gate n (e₂ .0) (e₁ .1) (e₃ .1))))))))))))))))))))))))))))
 
 module _ {M : Type 1} (𝓤 : URA M) (H : Heap 𝓤) (A : Atoms 𝓤) (W : Given 𝓤 H A) (mem : Memory → SProp 𝓤) (run : Routine → Fun 𝓤) (𝓣 : Tables 𝓤 H)
-    (known₁ : Triple 𝓤 (𝓣 .C window-def.name) (WindowOf 𝓤 H A mem run)) (known₂ : Triple 𝓤 (𝓣 .C bars-def.name) (GateBars 𝓤 H A mem run)) (known₃ : Triple 𝓤 (𝓣 .C answer-def.name) (Answers 𝓤 H A mem run)) where
+    (known₁ : Triple 𝓤 (𝓣 .C window-def.name) (WindowOf 𝓤 H A mem run)) (known₂ : Triple 𝓤 (𝓣 .C bars-def.name) (GateBars 𝓤 H A mem run)) (known₃ : Triple 𝓤 (𝓣 .C answer-def.name) (AnswerOf 𝓤 H A mem run)) where
   recognise-bars-walks : Walks 𝓤 H A f.ended stayed (WpFn 𝓤 H (𝓣 .C) (𝓣 .Λ) code.function) (f.clauses 𝓤 H A mem run)
   recognise-bars-walks = walked 𝓤 H A f.ended stayed (f.clauses 𝓤 H A mem run) (WpFn 𝓤 H (𝓣 .C) (𝓣 .Λ) code.function)
       (λ κs. (uint-vals w32, (uint-vals w32, (LL.vals S.the-type S′.the-laws, (slice-vals, tt))))) (λ κs. (uint-tells w32, (uint-tells w32, (LL.tells S.the-type S′.the-laws, (shr-slice-tells (named 0) (κs .0) T.the-row, tt)))))
@@ -237,4 +238,4 @@ recognise-bars-spec 𝓤 H 𝓜 𝓖 𝓡 =
     (recognise-bars-meets 𝓤 H (𝓖 .A) (givenOf 𝓤 H 𝓜 𝓖) (𝓜 .mem) (𝓡 .run) (tablesOf 𝓤 H 𝓜 (tables 𝓤 H 𝓜 𝓡 code.env))
     (cited 𝓤 H (WindowOf 𝓤 H (𝓖 .A) (𝓜 .mem) (𝓡 .run)) 𝓜 𝓡 code.env window-def.name window-def.routine code.calls-records·window-of (window-thm.met 𝓤 H 𝓜 𝓖 𝓡))
     (cited 𝓤 H (GateBars 𝓤 H (𝓖 .A) (𝓜 .mem) (𝓡 .run)) 𝓜 𝓡 code.env bars-def.name bars-def.routine code.calls-recognisers·export·gate-bars (bars-thm.met 𝓤 H 𝓜 𝓖 𝓡))
-    (cited 𝓤 H (Answers 𝓤 H (𝓖 .A) (𝓜 .mem) (𝓡 .run)) 𝓜 𝓡 code.env answer-def.name answer-def.routine code.calls-records·answer (answer-thm.met 𝓤 H 𝓜 𝓖 𝓡)))
+    (cited 𝓤 H (AnswerOf 𝓤 H (𝓖 .A) (𝓜 .mem) (𝓡 .run)) 𝓜 𝓡 code.env answer-def.name answer-def.routine code.calls-records·answer (answer-thm.met 𝓤 H 𝓜 𝓖 𝓡)))

@@ -44,7 +44,7 @@ use Rattle.measures.proofs.WindowLaws.{upTo-le}
 use Rattle.recognisers.specs.Number.{reachBars}
 use Rattle.records.specs.declared.Span.{Span}
 use Rattle.records.specs.declared.Window.{Window}
-use Rattle.records.specs.Held.{barsIn}
+use Rattle.records.specs.Held.{windowBars}
 use Rattle.records.proofs.HeldLaws.{window-gathered}
 use Rattle.records.proofs.Walk.{own, own-usize}
 use Rattle.prices.proofs.bars.Bar as T
@@ -74,7 +74,7 @@ abbrev Spanned : ℕ → ℕ → ℕ → Span → Type 0
 Spanned len di n s = (s .to ≡ upTo len di) × (s .from ≡ upTo len di - min n (upTo len di))
 
 abbrev Taken : List Bar → Span → Window → Window → Type 0
-Taken bars s w r = (r .count ≡ w .count + (s .to - s .from)) × (barsIn r ≡ barsIn w ++ take (s .to - s .from) (drop-first (s .from) bars))
+Taken bars s w r = (r .count ≡ w .count + (s .to - s .from)) × (windowBars r ≡ windowBars w ++ take (s .to - s .from) (drop-first (s .from) bars))
 
 module _ {M : Type 1} (𝓤 : URA M) (H : Heap 𝓤) (A : Atoms 𝓤) (mem : Memory → SProp 𝓤) (run : Routine → Fun 𝓤) where
   -- the contracts that the proof cites
@@ -139,7 +139,7 @@ module _ {M : Type 1} (𝓤 : URA M) (H : Heap 𝓤) (A : Atoms 𝓤) (W : Given
   taken : (s : Span) (w r : Window) → ent 𝓤 (ensured 𝓤 H A gathered.ended (gathered.clauses 𝓤 H A mem run) (κ, tt) (p, (s .from, (s .to, (w, tt)))) tt r) (fact 𝓤 (Taken (p .now) s w r))
   taken s w r = exE 𝓤 _ (λ ws. snd∗ 𝓤 (sem 𝓤 H A (lasts gathered.ended (κ, tt) (p, (s .from, (s .to, (w, tt)))) ws)) (fact 𝓤 (Taken (p .now) s w r)))
 
-  exits : (r : Window) (u : Val) → (r .count ≤ reachBars) × (barsIn r ≡ windowOf (p .now) di n) → ent 𝓤 (⋆ 𝓤 H A (‵ (N.the-row .own r (u ∷ [])) ∷ (‵ (flft κ q) ⊛ ‵ ftrue) ∷ ‵ Own ∷ [])) (Post u)
+  exits : (r : Window) (u : Val) → (r .count ≤ reachBars) × (windowBars r ≡ windowOf (p .now) di n) → ent 𝓤 (⋆ 𝓤 H A (‵ (N.the-row .own r (u ∷ [])) ∷ (‵ (flft κ q) ⊛ ‵ ftrue) ∷ ‵ Own ∷ [])) (Post u)
   exits r u e =
       qed W (‵ (N.the-row .own r (u ∷ [])) ∷ (‵ (flft κ q) ⊛ ‵ ftrue) ∷ ‵ Own ∷ []) ∵
       suffices ! _ (ends-at 𝓤 H A f.ended stayed (f.clauses 𝓤 H A mem run) W (((κ, tt), (q, tt), tt, (p, (di, (n, tt))), at), tt) u r (tt, (tt, (tt, tt))) (tt, (tt, (tt, tt)))) $ says ! e $
@@ -189,7 +189,7 @@ module _ {M : Type 1} (𝓤 : URA M) (H : Heap 𝓤) (A : Atoms 𝓤) (W : Given
         within : (s : Span) (w : Window) → Spanned len di n s → w .count ≡ 0 → (s .to ≤ len) × (w .count + (s .to - s .from) ≤ reachBars)
         within s w e none = (omega (arith, e .0, upTo-le len di), omega (arith, few, e .0, e .1, none))
 
-        held : (r w : Window) (s : Span) → Spanned len di n s → w .count ≡ 0 → Taken (p .now) s w r → (r .count ≤ reachBars) × (barsIn r ≡ windowOf (p .now) di n)
+        held : (r w : Window) (s : Span) → Spanned len di n s → w .count ≡ 0 → Taken (p .now) s w r → (r .count ≤ reachBars) × (windowBars r ≡ windowOf (p .now) di n)
         held r w s e none got = let is = window-gathered r w s (p .now) di n none e got in (omega (arith, few, is .0), is .1)
 
 module _ {M : Type 1} (𝓤 : URA M) (H : Heap 𝓤) (A : Atoms 𝓤) (W : Given 𝓤 H A) (mem : Memory → SProp 𝓤) (run : Routine → Fun 𝓤) (𝓣 : Tables 𝓤 H)

@@ -6,14 +6,15 @@ use mathlib.Core.Path.{_≡_, refl}
 use borrow.Author.Tests.{eqb-true}
 use lib.Dec.{eqb}
 use lib.ListN.{length, getD}
-use Rattle.replay.specs.Command.{barSize, thresholdsSize, callSize, isNew, hasForm, commandOf}
+use Rattle.recognisers.specs.Export.{barBytes}
+use Rattle.replay.specs.Command.{thresholdsSize, callSize, isNew, hasForm, commandOf}
 use Rattle.replay.specs.Hex.{payloadOf}
 use Rattle.replay.specs.declared.command.Command.{Command}
 use Rattle.replay.specs.declared.command.Command.the-variants.{New, Bar, Thresholds, Call, Bad}
 
 abbrev pub Sized : Command → List ℕ → Type 0
 Sized New line = Unit {0}
-Sized Bar line = length (payloadOf line) ≡ barSize
+Sized Bar line = length (payloadOf line) ≡ barBytes
 Sized Thresholds line = length (payloadOf line) ≡ thresholdsSize
 Sized Call line = length (payloadOf line) ≡ callSize
 Sized Bad line = Unit {0}
@@ -30,10 +31,10 @@ module _ (line : List ℕ) where
   has-size letter size e =
       eqb-true _ _ (last-of-four (eqb (length line) (2 + 2 * size)) (eqb (getD line 0 0) letter) (eqb (getD line 1 0) 32) _ e)
 
-  by-tests : (n b t c : Bool) → hasForm line 98 barSize ≡ b → hasForm line 116 thresholdsSize ≡ t → hasForm line 99 callSize ≡ c
+  by-tests : (n b t c : Bool) → hasForm line 98 barBytes ≡ b → hasForm line 116 thresholdsSize ≡ t → hasForm line 99 callSize ≡ c
       → Sized (cond n New (cond b Bar (cond t Thresholds (cond c Call Bad)))) line
   by-tests true b t c eb et ec = tt
-  by-tests false true t c eb et ec = has-size 98 barSize eb
+  by-tests false true t c eb et ec = has-size 98 barBytes eb
   by-tests false false true c eb et ec = has-size 116 thresholdsSize et
   by-tests false false false true eb et ec = has-size 99 callSize ec
   by-tests false false false false eb et ec = tt

@@ -8,19 +8,20 @@ use borrow.Author.Tests.{le-leb, lt-leb}
 use lib.ListN.{length, take, length-append}
 use lib.Seq.{take-all}
 use Rattle.replay.specs.Buffer.{capacity, content}
-use Rattle.replay.specs.Command.{barSize, commandOf}
+use Rattle.recognisers.specs.Export.{barBytes}
+use Rattle.replay.specs.Command.{commandOf}
 use Rattle.replay.specs.Hex.{payloadOf}
 use Rattle.replay.specs.Session.{withBar, historyAfter, thresholdsAfter, isRefused, Keeps, Executes}
 use Rattle.replay.specs.declared.session.Session.{Session}
 use Rattle.replay.specs.declared.command.Command.{Command}
 
-pub bar-fits : (history bar : List ℕ) → length bar ≡ barSize → length history + barSize ≤ capacity
+pub bar-fits : (history bar : List ℕ) → length bar ≡ barBytes → length history + barBytes ≤ capacity
     → take capacity (history ++ bar) ≡ withBar history bar
 unfolding withBar
 bar-fits history bar e h =
     let all : length (history ++ bar) ≤ capacity = simp length-append (omega arith) in rw (le-leb _ _ h, take-all capacity (history ++ bar) all)
 
-pub no-room : (history bar : List ℕ) → capacity < length history + barSize → history ≡ withBar history bar
+pub no-room : (history bar : List ℕ) → capacity < length history + barBytes → history ≡ withBar history bar
 unfolding withBar
 no-room history bar h = rw (lt-leb _ _ h)
 

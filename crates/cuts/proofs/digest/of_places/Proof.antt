@@ -1,11 +1,12 @@
 -- `cuts::digest::of_places` is safe and ends. Assumes nothing.
 use Prim.Native.Nat.{_≤_, _-_}
 use borrow.Author.Needs.{needs}
+use Rattle.recognisers.specs.Number.{places}
 use Rattle.cuts.proofs.digest.of_places.Statement.{statement}
 use Rattle.cuts.proofs.digest.of_places.Tie as tie
 
 abbrev Inv-loop : tie.InvT-loop
-Inv-loop from to bars end d₀ i₀ d i = end ≤ 64
+Inv-loop from to bars end d₀ i₀ d i = end ≤ places
 
 abbrev μ-loop : tie.MeasureT-loop
 μ-loop from to bars end d₀ i₀ d i = end - i

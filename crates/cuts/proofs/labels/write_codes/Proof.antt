@@ -1,14 +1,15 @@
 -- `cuts::labels::write_codes` is safe and ends. Assumes nothing.
 use Prim.Native.Nat.{_≤_, _-_}
 use borrow.Author.Needs.{needs}
+use Rattle.recognisers.specs.Number.{labels}
 use Rattle.cuts.proofs.labels.write_codes.Statement.{statement}
 use Rattle.cuts.proofs.labels.write_codes.Tie as tie
 
 abbrev Inv-loop : tie.InvT-loop
-Inv-loop prices sheet code₀ t5 t6 code = code ≤ 38
+Inv-loop prices sheet code₀ t5 t6 code = code ≤ labels
 
 abbrev μ-loop : tie.MeasureT-loop
-μ-loop prices sheet code₀ t5 t6 code = 38 - code
+μ-loop prices sheet code₀ t5 t6 code = labels - code
 
 rows-requires : tie.Need-rows-requires Inv-loop μ-loop
 rows-requires c κs = search needs

@@ -1,14 +1,15 @@
 -- `cuts::labels::write_recognisers` is safe and ends. Assumes nothing.
-use Prim.Native.Nat.{_≤_, _-_}
+use Prim.Native.Nat.{_*_, _-_, _≤_}
 use borrow.Author.Needs.{needs}
+use Rattle.recognisers.specs.Number.{recognisers, rowBytes}
 use Rattle.cuts.proofs.labels.write_recognisers.Statement.{statement}
 use Rattle.cuts.proofs.labels.write_recognisers.Tie as tie
 
 abbrev Inv-loop : tie.InvT-loop
-Inv-loop prices sheet end k₀ t5 k = (k ≤ 18) × (end ≤ 10800)
+Inv-loop prices sheet end k₀ t5 k = (k ≤ recognisers) × (end ≤ rowBytes * 300)
 
 abbrev μ-loop : tie.MeasureT-loop
-μ-loop prices sheet end k₀ t5 k = 18 - k
+μ-loop prices sheet end k₀ t5 k = recognisers - k
 
 rows-requires : tie.Need-rows-requires Inv-loop μ-loop
 rows-requires c κs = search needs

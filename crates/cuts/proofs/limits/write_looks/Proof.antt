@@ -1,14 +1,15 @@
 -- `cuts::limits::write_looks` is safe and ends. Assumes nothing.
 use Prim.Native.Nat.{_≤_, _-_}
 use borrow.Author.Needs.{needs}
+use Rattle.recognisers.specs.Number.{recognisers}
 use Rattle.cuts.proofs.limits.write_looks.Statement.{statement}
 use Rattle.cuts.proofs.limits.write_looks.Tie as tie
 
 abbrev Inv-loop : tie.InvT-loop
-Inv-loop b di k₀ t4 k = k ≤ 18
+Inv-loop b di k₀ t4 k = k ≤ recognisers
 
 abbrev μ-loop : tie.MeasureT-loop
-μ-loop b di k₀ t4 k = 18 - k
+μ-loop b di k₀ t4 k = recognisers - k
 
 loop-holds : tie.Need-loop-holds Inv-loop μ-loop
 loop-holds c = search needs

@@ -1,14 +1,15 @@
 -- `cuts::plain::of_places` is safe and ends. Assumes nothing.
 use Prim.Native.Nat.{_≤_, _-_}
 use borrow.Author.Needs.{needs}
+use Rattle.recognisers.specs.Number.{places}
 use Rattle.cuts.proofs.plain.of_places.Statement.{statement}
 use Rattle.cuts.proofs.plain.of_places.Tie as tie
 
 abbrev Inv-loop : tie.InvT-loop
-Inv-loop prices d₀ i₀ d i = i ≤ 64
+Inv-loop prices d₀ i₀ d i = i ≤ places
 
 abbrev μ-loop : tie.MeasureT-loop
-μ-loop prices d₀ i₀ d i = 64 - i
+μ-loop prices d₀ i₀ d i = places - i
 
 loop-holds : tie.Need-loop-holds Inv-loop μ-loop
 loop-holds c = search needs

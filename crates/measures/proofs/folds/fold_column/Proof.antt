@@ -5,14 +5,14 @@ use mathlib.Core.List.{foldl}
 use native.Mathlib.Omega.{arith}
 use lib.ListN.{length, drop}
 use Rattle.prices.specs.Bar.{barsOf}
-use Rattle.measures.specs.Fold.{stepOf, columnOf}
+use Rattle.measures.specs.Fold.{foldStep, columnOf}
 use Rattle.measures.proofs.FoldLaws.{turn, turned}
 use Rattle.measures.proofs.folds.fold_column.Statement.{statement}
 use Rattle.measures.proofs.folds.fold_column.Tie as tie
 
 abbrev Inv-loop : tie.InvT-loop
 Inv-loop prices c f start n x₀ i₀ x i =
-    (i ≤ n) × (n ≡ length (barsOf prices)) × (foldl (stepOf f) x (columnOf c (drop i (barsOf prices))) ≡ foldl (stepOf f) start (columnOf c (barsOf prices)))
+    (i ≤ n) × (n ≡ length (barsOf prices)) × (foldl (foldStep f) x (columnOf c (drop i (barsOf prices))) ≡ foldl (foldStep f) start (columnOf c (barsOf prices)))
 
 abbrev μ-loop : tie.MeasureT-loop
 μ-loop prices c f start n x₀ i₀ x i = n - i
@@ -35,14 +35,14 @@ loop-again c =
     let args = at-loop .before .before .before .args in
     let bars = barsOf (args .prices .now) in
     let now = at-loop .loop in
-    (omega arith, now .inv .1, simp (c .step .ensures, c .before .price-in .ensures, c .before .before .bar-at .ensures) (turn (stepOf (args .f)) (args .c) bars (now .i) (now .x) (omega arith) ∙ now .inv .2))
+    (omega arith, now .inv .1, simp (c .step .ensures, c .before .price-in .ensures, c .before .before .bar-at .ensures) (turn (foldStep (args .f)) (args .c) bars (now .i) (now .x) (omega arith) ∙ now .inv .2))
 
 returns : tie.Need-returns Inv-loop μ-loop
 returns c =
     let at-loop = c .before in
     let args = at-loop .before .before .before .args in
     let now = at-loop .loop in
-    sym (turned (stepOf (args .f)) (args .c) (barsOf (args .prices .now)) (now .i) (now .x) (omega arith)) ∙ now .inv .2
+    sym (turned (foldStep (args .f)) (args .c) (barsOf (args .prices .now)) (now .i) (now .x) (omega arith)) ∙ now .inv .2
 
 pub fold-column-spec : {M : Type 1} → statement M
 fold-column-spec =

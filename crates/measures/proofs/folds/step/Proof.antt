@@ -1,4 +1,4 @@
--- Each arm of the match is a case of stepOf.
+-- Each arm of the match is a case of foldStep.
 use borrow.Author.Needs.{needs}
 use Rattle.measures.proofs.folds.step.Statement.{statement}
 use Rattle.measures.proofs.folds.step.Tie as tie

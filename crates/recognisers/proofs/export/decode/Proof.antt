@@ -6,6 +6,7 @@ use borrow.Author.Needs.{needs}
 use lib.ListN.{length}
 use Rattle.measures.specs.Bar.{barsOf}
 use Rattle.measures.proofs.WindowLaws.{upTo-le}
+use Rattle.recognisers.specs.Export.{barBytes}
 use Rattle.recognisers.proofs.ByteLaws.{window-bytes}
 use Rattle.recognisers.proofs.export.decode.Statement.{statement}
 use Rattle.recognisers.proofs.export.decode.Tie as tie
@@ -13,13 +14,13 @@ use Rattle.recognisers.proofs.export.decode.Tie as tie
 mul-prices-at : tie.Need-mul-prices-at
 mul-prices-at c =
     let args = c .before .before .before .before .args in
-    omega (arith, c .before .up-to .ensures, upTo-le (length (args .s .now) / 32) (args .di))
+    omega (arith, c .before .up-to .ensures, upTo-le (length (args .s .now) / barBytes) (args .di))
 
 prices-at-requires : tie.Need-prices-at-requires
 prices-at-requires c κs =
     let read = c .before in
     let args = read .before .before .before .before .args in
-    omega (arith, read .least .ensures, read .before .up-to .ensures, upTo-le (length (args .s .now) / 32) (args .di))
+    omega (arith, read .least .ensures, read .before .up-to .ensures, upTo-le (length (args .s .now) / barBytes) (args .di))
 
 same-length : tie.Need-same-length
 same-length c = c .before .before .prices-at .kept .1 .1 .1 .0

@@ -2,13 +2,13 @@
 use mathlib.Core.Path.{_≡_, refl}
 use Rattle.measures.specs.Bar.{barsOf}
 use Rattle.growing_rules.proofs.GrowingLaws.{san-fa-near, ta-xing-near}
-use Rattle.rule_table.specs.Table.{rowOf, rows, seenOf, numbers, ruleOf, rulesOf}
+use Rattle.rule_table.specs.Table.{tableRow, rows, seenOf, numbers, ruleOf, rulesOf}
 use Rattle.rule_table.proofs.TableLaws.{both}
 use Rattle.rule_table.proofs.table.rules.Statement.{statement}
 use Rattle.rule_table.proofs.table.rules.Tie as tie
 
 returns : tie.Need-returns
-unfolding rulesOf numbers rowOf rows seenOf
+unfolding rulesOf numbers tableRow rows seenOf
 returns c =
     let c16 = c in
     let c15 = c16 .before in

@@ -5,7 +5,8 @@ use borrow.Author.Tests.{ltb-true}
 use lib.ListN.{length, take, length-map}
 use lib.Seq.{take-length}
 use Rattle.replay.specs.Buffer.{content}
-use Rattle.replay.specs.Command.{barSize, commandOf}
+use Rattle.recognisers.specs.Export.{barBytes}
+use Rattle.replay.specs.Command.{commandOf}
 use Rattle.replay.specs.Hex.{longest, payloadOf}
 use Rattle.replay.specs.Session.{withBar, historyAfter, thresholdsAfter, isRefused}
 use Rattle.replay.specs.Thresholds.{thresholdsOf}
@@ -65,8 +66,8 @@ returns-2 c =
     let a = c .before .before .before .before .before .before .before .args in
     let k : commandOf (a .line .now) ≡ Bar = sym (c .before .before .before .parse .ensures) ∙ c .before .enum-told2 .given .1 in
     let d = c .before .before .before .before .before .decode in
-    let size : d .result .len ≡ barSize = d .ensures .1 ∙ rw k at (command-size (a .line .now)) in
-    let bar : take barSize (d .result .bytes) ≡ payloadOf (a .line .now) = rw size at (d .ensures .0) in
+    let size : d .result .len ≡ barBytes = d .ensures .1 ∙ rw k at (command-size (a .line .now)) in
+    let bar : take barBytes (d .result .bytes) ≡ payloadOf (a .line .now) = rw size at (d .ensures .0) in
     let r = c .append-bar .ensures in
     let history = r .0 ∙ ap (withBar (content (a .self .history))) bar in
     executes _ _ _ Bar k history (r .1 .0) (λ full. r .1 .1 (ltb-true _ _ full))

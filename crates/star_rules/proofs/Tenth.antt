@@ -1,4 +1,4 @@
--- At ten times a threshold of 01's the dojis are 01's, since 10k ÷ 10.0 is k. Assumes nothing.
+-- 10k ÷ 10.0 is k: th in tenths, at ten times a threshold of 01's, is 01's. Assumes nothing.
 use mathlib.Core.Path.{_≡_, refl, ap, _∙_}
 use mathlib.Core.Bool.{true, false, true≢false}
 use Prim.Native.Nat.{ℕ, _*_, _≤_}
@@ -11,11 +11,8 @@ use lib.Ieee.Back.{round-whole}
 use lib.Ieee.Exact.{HasValue}
 use lib.Ieee.Fits.{down-pos}
 use lib.Ieee.Scale.{round-same}
-use Rattle.measures.specs.Bar.{dojiAbove, dojiOf}
 use Rattle.measures.specs.Price.{ten}
 use Rattle.rule_types.specs.Number.{mostWhole, wholeOf}
-use Rattle.star_rules.specs.StarRule.{szxBy, szx, sanSzxBy, sanSzx}
-use Rattle.star_rules.specs.SameDojis.{SameDojis}
 
 ten-is : ten ≡ fin false 5 (pos 1)
 unfolding ofBits
@@ -39,13 +36,3 @@ unfolding ofInt
 tenth k h =
     ap (λ (y : Float). div binary64 (wholeOf (10 * k)) y) ten-is
     ∙ tenth-of k (round binary64 false (10 * k) 1) (round-whole binary64 false (10 * k) (omega arith))
-
-pub same-dojis : (k : ℕ) → k ≤ mostWhole → SameDojis k
-unfolding dojiOf szx sanSzx
-same-dojis k h =
-    let q = tenth k h in
-    record {
-      doji = λ b. ap (λ (th : Float). dojiAbove th b) q;
-      pair-13 = λ b1 b2. ap (λ (th : Float). szxBy (dojiAbove th) b1 b2) q;
-      pair-14 = λ b1 b2 b3 b4 b5. ap (λ (th : Float). sanSzxBy (dojiAbove th) b1 b2 b3 b4 b5) q;
-    }
