@@ -22,8 +22,8 @@ use Rattle.growing_rules.specs.declared.Ends.{Ends}
 use Rattle.growing_rules.specs.declared.Shape.{Shape}
 use Rattle.growing_rules.specs.declared.Shape.the-variants.{ThreeMethods, Tower}
 use Rattle.growing_rules.specs.declared.middle.Middle.{Middle}
-use Rattle.growing_rules.specs.GrowingRule.{firstMatch, innerOf, checkOf, standsOut}
-use Rattle.growing_rules.specs.Middle.{middleOf, entered, middleAt, mayRise, mayFall, mayBeTop, mayBeBottom, mayBe, beyond, noMatch, foundOf, searchedOf}
+use Rattle.growing_rules.specs.GrowingRule.{firstMatch, innerOf, standsOut}
+use Rattle.growing_rules.specs.Middle.{checkOf, middleOf, entered, middleAt, mayRise, mayFall, mayBeTop, mayBeBottom, mayBe, beyond, noMatch, foundOf, searchedOf}
 use Rattle.growing_rules.proofs.GrowingLaws.{match-miss, match-ends}
 use Rattle.growing_rules.proofs.MiddleLaws.{first-at, last-at, at-next, at-end}
 use Rattle.growing_rules.proofs.ShapeLaws.{neither, no-label}
