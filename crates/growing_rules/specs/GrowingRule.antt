@@ -139,11 +139,3 @@ taXing w = firstMatch tower 5 5 w
 -- ---- both at once, as a row of all recognisers has them
 abbrev pub growingOf : List Bar → Growing
 growingOf w = record { methods = sanFaV20221118 w; tower = taXing w }
-
--- ---- what the code tests before it searches: that the newest bar rises and no high of the three before it is above its close, or that
--- it falls and no low is below its close; a NaN is neither
-unfoldable pub standsOut : Bar → Bar → Bar → Bar → Bool
-standsOut b1 b2 b3 b4 =
-    let c = b1 .close in
-    lt (b1 .«open») c && not (lt c (b2 .high)) && not (lt c (b3 .high)) && not (lt c (b4 .high))
-    || lt c (b1 .«open») && not (lt (b2 .low) c) && not (lt (b3 .low) c) && not (lt (b4 .low) c)
