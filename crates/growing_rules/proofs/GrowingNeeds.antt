@@ -2,7 +2,7 @@
 -- Assumes nothing.
 use Prim.Native.Nat.{ℕ, zero, suc, _+_, _-_, _≤_, min}
 use mathlib.Core.Path.{_≡_, refl, sym, _∙_}
-use mathlib.Core.Bool.{Bool, true, false, not, _&&_, _||_, and-false}
+use mathlib.Core.Bool.{Bool, true, false, _&&_, and-false}
 use mathlib.Core.List.{List}
 use native.Mathlib.Omega.{arith}
 use native.Mathlib.Decide.{decLe, decLt}
@@ -12,10 +12,9 @@ use lib.ListN.{length}
 use lib.Ieee.{Float, lt, isNan}
 use Rattle.measures.specs.Bar.{Bar}
 use Rattle.measures.specs.declared.folds.Column.the-variants.{High, Low}
-use Rattle.measures.specs.Price.{maxOf, minOf}
 use Rattle.measures.specs.Window.{windowOf, backOf}
 use Rattle.measures.specs.Fold.{columnOf, extremesOf}
-use Rattle.measures.proofs.Order.{max-second, min-second, max-under, min-over, max-known, min-known, both-ways}
+use Rattle.measures.proofs.Order.{max-second, min-second, both-ways}
 use Rattle.measures.proofs.FoldLaws.{known-highest, known-lowest}
 use Rattle.rule_types.specs.declared.label.Label.the-variants.{Other}
 use Rattle.growing_rules.specs.declared.Ends.{Ends}

@@ -15,7 +15,7 @@ use Rattle.measures.specs.declared.folds.Column.the-variants.{High, Low}
 use Rattle.measures.specs.Window.{upTo, newest, windowOf, backOf}
 use Rattle.measures.specs.Fold.{columnOf, highestOf, lowestOf, everyOf, extremesOf}
 use Rattle.measures.proofs.FoldLaws.{highest-grows, lowest-grows, max-of-known, min-of-known}
-use Rattle.prices.proofs.Order.{max-stays-known, min-stays-known}
+use Rattle.measures.proofs.Order.{max-stays-known, min-stays-known}
 use Rattle.measures.proofs.WindowLaws.{upTo-in, upTo-one, length-window, newest-more, newest-none, back-newest, window-reach, all-of-it}
 use Rattle.growing_rules.specs.GrowingRule.{firstOf, lastOf, innerOf}
 use Rattle.growing_rules.specs.Middle.{middleOf, entered, grownBy, middleAt}

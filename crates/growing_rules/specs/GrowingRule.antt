@@ -1,7 +1,7 @@
 -- "The eighteen": the rules that try growing windows, 4 and 17. A window is a list of bars, oldest first.
 use Prim.Native.Nat.{ℕ, zero, suc, _+_, _-_}
 use mathlib.Core.Path.{_≡_}
-use mathlib.Core.Bool.{Bool, true, false, cond, not, _&&_, _||_}
+use mathlib.Core.Bool.{Bool, true, false, cond, not, _&&_}
 use mathlib.Core.List.{List, [], _∷_, map, reverse, Perm}
 use lib.Dec.{eqb}
 use lib.ListN.{length, getD}

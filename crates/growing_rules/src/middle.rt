@@ -67,15 +67,14 @@ fn middle_of_three(old: Bar, between: Bar, new: Bar) -> Middle
     }
 }
 
-// The middle of the first window that is tried.
+// The middle of the first window that is tried. Of fewer than five bars those between the ends enter one by one.
 pub(crate) fn first_middle(w: &[f64]) -> Middle
     ensures { λ r. ⌜ r ≡ middleAt (barsOf (now (w .entry))) 5 ⌝ }
 {
     if measures::count(w) < 5 {
         let none = no_middle();
         let one = grow(none, w, 2);
-        let two = grow(one, w, 3);
-        grow(two, w, 4)
+        grow(one, w, 3)
     } else {
         middle_of_three(
             measures::back(w, 4),
