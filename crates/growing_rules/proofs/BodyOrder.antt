@@ -1,18 +1,11 @@
--- What 17 reads as "the bodies in non-falling order" is that: the bodies of the window, no more and no fewer, of which none is above its
--- neighbour behind it. Assumes nothing.
+-- What 17 reads as "the bodies in non-falling order" is that (GrowingRule.BodyOrder). Assumes nothing.
 use mathlib.Core.Path.{_≡_, refl}
 use mathlib.Core.Bool.{Bool, true, false, cond}
 use mathlib.Core.List.{List, [], _∷_, map, reverse, reverseAux, reverse-perm, Perm, Perm·refl, Perm·cons, Perm·swap, Perm·trans}
 use lib.Ieee.{Float, lt}
 use Rattle.measures.specs.Bar.{Bar, bodyOf}
 use Rattle.measures.proofs.Order.{lt-asym}
-use Rattle.growing_rules.specs.GrowingRule.{insertOf, bodiesDown, bodiesUp}
-
--- none is above its neighbour behind it
-abbrev pub NonFalling : List Float → Type 0
-NonFalling [] = Unit {0}
-NonFalling (a ∷ []) = Unit {0}
-NonFalling (a ∷ b ∷ rest) = (lt b a ≡ false) × NonFalling (b ∷ rest)
+use Rattle.growing_rules.specs.GrowingRule.{insertOf, bodiesDown, bodiesUp, NonFalling, BodyOrder}
 
 -- ---- the insertion gives them in non-rising order: none is below its neighbour behind it
 
@@ -65,14 +58,10 @@ reverse-non-falling : (l : List Float) → NonRising l → NonFalling (reverse l
 reverse-non-falling [] h = tt
 reverse-non-falling (b ∷ l) h = turned l b [] h tt
 
-pub record BodiesInOrder (s : List Bar) : Type 0 where
-  pub non-falling : NonFalling (bodiesUp s)
-  pub the-bodies : Perm (bodiesUp s) (map bodyOf s)
-
-pub bodies-in-order : (s : List Bar) → BodiesInOrder s
+pub body-order : BodyOrder
 unfolding bodiesUp
-bodies-in-order s =
+body-order =
     record {
-      non-falling = reverse-non-falling (bodiesDown s) (down-non-rising s);
-      the-bodies = Perm·trans (reverse-perm (bodiesDown s)) (down-perm s);
+      non-falling = λ s. reverse-non-falling (bodiesDown s) (down-non-rising s);
+      the-bodies = λ s. Perm·trans (reverse-perm (bodiesDown s)) (down-perm s);
     }

@@ -17,7 +17,8 @@ use Rattle.rule_types.specs.declared.label.Label.{Label}
 use Rattle.rule_types.specs.declared.label.Label.the-variants.{Other}
 use Rattle.rule_types.specs.declared.label.Pair.{Pair}
 use Rattle.rule_types.specs.Label.{codeOf, pairOf, pairA}
-use Rattle.growing_rules.specs.GrowingRule.{sizeLabel, firstMatch, threeMethods, sanFaV20221118, tower, taXing, insertOf, bodiesDown, bodiesUp, lastButOne, bodiesKnown, leadersOf, joined}
+use Rattle.growing_rules.specs.GrowingRule.{sizeLabel, firstMatch, threeMethods, sanFaV20221118, tower, taXing, insertOf, bodiesDown, bodiesUp, lastButOne, bodiesKnown}
+use Rattle.growing_rules.specs.Middle.{leadersOf, joined}
 
 -- ---- the search, a size more: what was found stands; where nothing was, the window of that size decides
 

@@ -1,8 +1,8 @@
--- What every match of 4 and of 17 needs: the newest close lies beyond the middle, and so, before any window is tried, the newest bar stands out
--- from the three before it. A middle that it does not lie beyond grows to no other. Assumes nothing.
+-- What every match of 4 and of 17 needs: the newest close lies beyond the middle. A middle that it does not lie beyond grows to no other.
+-- Assumes nothing.
 use Prim.Native.Nat.{ℕ, zero, suc, _+_, _-_, _≤_, min}
 use mathlib.Core.Path.{_≡_, refl, sym, _∙_}
-use mathlib.Core.Bool.{Bool, true, false, not, _&&_, _||_, and-false}
+use mathlib.Core.Bool.{Bool, true, false, _&&_, and-false}
 use mathlib.Core.List.{List}
 use native.Mathlib.Omega.{arith}
 use native.Mathlib.Decide.{decLe, decLt}
@@ -12,18 +12,17 @@ use lib.ListN.{length}
 use lib.Ieee.{Float, lt, isNan}
 use Rattle.measures.specs.Bar.{Bar}
 use Rattle.measures.specs.declared.folds.Column.the-variants.{High, Low}
-use Rattle.measures.specs.Price.{maxOf, minOf}
 use Rattle.measures.specs.Window.{windowOf, backOf}
 use Rattle.measures.specs.Fold.{columnOf, extremesOf}
-use Rattle.measures.proofs.Order.{max-second, min-second, max-under, min-over, max-known, min-known, both-ways}
+use Rattle.measures.proofs.Order.{max-second, min-second, both-ways}
 use Rattle.measures.proofs.FoldLaws.{known-highest, known-lowest}
 use Rattle.rule_types.specs.declared.label.Label.the-variants.{Other}
 use Rattle.growing_rules.specs.declared.Ends.{Ends}
 use Rattle.growing_rules.specs.declared.Shape.{Shape}
 use Rattle.growing_rules.specs.declared.Shape.the-variants.{ThreeMethods, Tower}
 use Rattle.growing_rules.specs.declared.middle.Middle.{Middle}
-use Rattle.growing_rules.specs.GrowingRule.{firstMatch, innerOf, checkOf, standsOut}
-use Rattle.growing_rules.specs.Middle.{middleOf, entered, middleAt, mayRise, mayFall, mayBeTop, mayBeBottom, mayBe, beyond, noMatch, foundOf, searchedOf}
+use Rattle.growing_rules.specs.GrowingRule.{firstMatch, innerOf}
+use Rattle.growing_rules.specs.Middle.{checkOf, middleOf, entered, middleAt, mayRise, mayFall, mayBeTop, mayBeBottom, mayBe, beyond, noMatch, foundOf, searchedOf}
 use Rattle.growing_rules.proofs.GrowingLaws.{match-miss, match-ends}
 use Rattle.growing_rules.proofs.MiddleLaws.{first-at, last-at, at-next, at-end}
 use Rattle.growing_rules.proofs.ShapeLaws.{neither, no-label}
@@ -155,48 +154,6 @@ searched-none ends w =
     let e2 : min 5 (ends .tower) - 5 ≡ 0 = omega arith in
     rw (e1, e2)
 
--- ---- the newest bar stands out from the three before it, where its close lies beyond them
-
--- once for both sides: what three values and a known one before them have as their foremost, none of the three has before it
-module _ (less : Float → Float → Bool) (f : Float → Float → Float)
-    (under : (a b z : Float) → less (f a b) z ≡ true → less z a ≡ false)
-    (second : (a b z : Float) → isNan b ≡ false → less (f a b) z ≡ true → less b z ≡ true)
-    (known : (a b : Float) → isNan b ≡ false → isNan (f a b) ≡ false) where
-  none-of-three : (c x y z m : Float) → isNan m ≡ false → less (f z (f y (f x m))) c ≡ true → (not (less c x) && not (less c y) && not (less c z)) ≡ true
-  none-of-three c x y z m k all =
-      let two = second z (f y (f x m)) c (known y (f x m) (known x m k)) all in
-      let one = second y (f x m) c (known x m k) two in
-      simp (under z (f y (f x m)) c all, under y (f x m) c two, under x m c one)
-
-three-below : (c x y z m : Float) → isNan m ≡ false → lt (maxOf z (maxOf y (maxOf x m))) c ≡ true → (not (lt c x) && not (lt c y) && not (lt c z)) ≡ true
-three-below = none-of-three lt maxOf max-under max-second max-known
-
-three-above : (c x y z m : Float) → isNan m ≡ false → lt c (minOf z (minOf y (minOf x m))) ≡ true → (not (lt x c) && not (lt y c) && not (lt z c)) ≡ true
-three-above = none-of-three (λ x y. lt y x) minOf min-over min-second min-known
-
--- a test and three more, the three of which a fourth implies
-fourth-fails : (a x y z u : Bool) → (u ≡ true → (x && y && z) ≡ true) → (a && x && y && z) ≡ false → (a && u) ≡ false
-fourth-fails false x y z u implies h = refl
-fourth-fails true x y z u implies h = still-fails true (x && y && z) u implies h
-
-module _ (b1 b2 b3 b4 : Bar) (m : Middle) (high : isNan (m .highest) ≡ false) (low : isNan (m .lowest) ≡ false) where
-  out-of-three : standsOut b1 b2 b3 b4 ≡ false → beyond b1 (entered b4 (entered b3 (entered b2 m))) ≡ false
-  unfolding standsOut beyond entered
-  out-of-three hidden =
-      let c = b1 .close in
-      let e = neither _ _ hidden in
-      let up = fourth-fails (lt (b1 .«open») c) _ _ _ _ (three-below c (b2 .high) (b3 .high) (b4 .high) (m .highest) high) (e .0) in
-      let down = fourth-fails (lt c (b1 .«open»)) _ _ _ _ (three-above c (b2 .low) (b3 .low) (b4 .low) (m .lowest) low) (e .1) in
-      simp (up, down)
-
-first-three : (w : List Bar) → 5 ≤ length w → middleAt w 5 ≡ entered (backOf w 4) (entered (backOf w 3) (entered (backOf w 2) (middleAt w 2)))
-first-three w long =
-    rw (at-next w 4 (omega arith) (omega arith), at-next w 3 (omega arith) (omega arith), at-next w 2 (omega arith) (omega arith))
-
--- where the code's first test fails, neither finds anything
-pub no-growing : (ends : Ends) (w : List Bar) → (ltb (length w) 5 || standsOut (backOf w 1) (backOf w 2) (backOf w 3) (backOf w 4)) ≡ false → searchedOf ends w 10 ≡ noMatch
-no-growing ends w not-may =
-    let e = neither (ltb (length w) 5) (standsOut (backOf w 1) (backOf w 2) (backOf w 3) (backOf w 4)) not-may in
-    let out = out-of-three (backOf w 1) (backOf w 2) (backOf w 3) (backOf w 4) (middleAt w 2) (known-high w 2) (known-low w 2) (e .1) in
-    let within : beyond (backOf w 1) (middleAt w 5) ≡ false = rw (first-three w (ltb-false (length w) 5 (e .0))) out in
-    sym (search-ends w 5 (omega arith) (omega arith) within ends) ∙ sym (searched-none ends w)
+-- so where the newest close is not beyond the first middle, nothing is found
+pub no-growing : (ends : Ends) (w : List Bar) → beyond (backOf w 1) (middleAt w 5) ≡ false → noMatch ≡ searchedOf ends w 10
+no-growing ends w within = searched-none ends w ∙ search-ends w 5 (omega arith) (omega arith) within ends

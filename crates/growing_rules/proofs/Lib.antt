@@ -1,4 +1,4 @@
--- A theorem about 17's bodies (BodyOrder), and laws that the proofs of several functions cite.
+-- The proof about 17's bodies (BodyOrder), and laws that the proofs of several functions cite.
 pub mod BodyOrder
 pub mod GrowingLaws
 pub mod GrowingNeeds

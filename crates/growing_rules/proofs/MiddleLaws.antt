@@ -8,12 +8,14 @@ use mathlib.Core.List.{List, [], _∷_}
 use native.Mathlib.Omega.{arith}
 use native.Mathlib.Decide.{decLe}
 use lib.ListN.{length, take}
+use lib.Ieee.{Float, inf, isNan, lt}
 use lib.Seq.{take-length, getD-take, length-take-le}
 use Rattle.measures.specs.Bar.{Bar, noBar}
 use Rattle.measures.specs.declared.folds.Column.the-variants.{High, Low}
 use Rattle.measures.specs.Window.{upTo, newest, windowOf, backOf}
-use Rattle.measures.specs.Fold.{columnOf, everyOf, extremesOf}
-use Rattle.measures.proofs.FoldLaws.{highest-grows, lowest-grows}
+use Rattle.measures.specs.Fold.{columnOf, highestOf, lowestOf, everyOf, extremesOf}
+use Rattle.measures.proofs.FoldLaws.{highest-grows, lowest-grows, max-of-known, min-of-known}
+use Rattle.measures.proofs.Order.{max-stays-known, min-stays-known}
 use Rattle.measures.proofs.WindowLaws.{upTo-in, upTo-one, length-window, newest-more, newest-none, back-newest, window-reach, all-of-it}
 use Rattle.growing_rules.specs.GrowingRule.{firstOf, lastOf, innerOf}
 use Rattle.growing_rules.specs.Middle.{middleOf, entered, grownBy, middleAt}
@@ -127,3 +129,22 @@ at-grown w n some = go (ltb n (length w)) refl
     go : (t : Bool) → ltb n (length w) ≡ t → cond t (entered (backOf w n) (middleAt w n)) (middleAt w n) ≡ middleAt w (n + 1)
     go true e = sym (at-next w n some (ltb-true n (length w) e))
     go false e = sym (at-end w n (ltb-false n (length w) e))
+
+-- ---- three bars from the oldest, by one comparison a price, since no extreme is NaN
+
+pub top-of-three : (x y z : Float) → let a = cond (lt (inf true) x) x (inf true) in let b = cond (lt a y) y a in cond (lt b z) z b ≡ highestOf (x ∷ y ∷ z ∷ [])
+unfolding highestOf isNan
+top-of-three x y z =
+    let first = max-stays-known (inf true) x refl in
+    rw (max-of-known (inf true) x refl, max-of-known _ y first, max-of-known _ z (max-stays-known _ y first))
+
+pub bottom-of-three : (x y z : Float) → let a = cond (lt x (inf false)) x (inf false) in let b = cond (lt y a) y a in cond (lt z b) z b ≡ lowestOf (x ∷ y ∷ z ∷ [])
+unfolding lowestOf isNan
+bottom-of-three x y z =
+    let first = min-stays-known (inf false) x refl in
+    rw (min-of-known (inf false) x refl, min-of-known _ y first, min-of-known _ z (min-stays-known _ y first))
+
+pub three-at : (w : List Bar) → 5 ≤ length w → middleOf (backOf w 4 ∷ backOf w 3 ∷ backOf w 2 ∷ []) ≡ middleAt w 5
+three-at w long =
+    rw (at-next w 4 (omega arith) (omega arith), at-next w 3 (omega arith) (omega arith), at-next w 2 (omega arith) (omega arith), at-two w)
+    (rw (middle-grows (backOf w 4) (backOf w 3 ∷ backOf w 2 ∷ []), middle-grows (backOf w 3) (backOf w 2 ∷ []), middle-grows (backOf w 2) []))

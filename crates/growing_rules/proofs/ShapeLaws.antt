@@ -16,8 +16,8 @@ use Rattle.rule_types.specs.Number.{aHalf}
 use Rattle.growing_rules.specs.declared.Shape.{Shape}
 use Rattle.growing_rules.specs.declared.Shape.the-variants.{ThreeMethods, Tower}
 use Rattle.growing_rules.specs.declared.middle.Middle.{Middle}
-use Rattle.growing_rules.specs.GrowingRule.{firstOf, lastOf, innerOf, risesOf, fallsOf, threeMethods, endsLead, topOf, bottomOf, tower, checkOf}
-use Rattle.growing_rules.specs.Middle.{middleOf, mayRise, mayFall, mayBeTop, mayBeBottom, mayBe}
+use Rattle.growing_rules.specs.GrowingRule.{firstOf, lastOf, innerOf, risesOf, fallsOf, threeMethods, endsLead, topOf, bottomOf, tower}
+use Rattle.growing_rules.specs.Middle.{checkOf, middleOf, mayRise, mayFall, mayBeTop, mayBeBottom, mayBe}
 
 pub neither : (a b : Bool) → (a || b) ≡ false → (a ≡ false) × (b ≡ false)
 neither false b h = (refl, h)

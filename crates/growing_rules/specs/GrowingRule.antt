@@ -1,7 +1,8 @@
 -- "The eighteen": the rules that try growing windows, 4 and 17. A window is a list of bars, oldest first.
 use Prim.Native.Nat.{ℕ, zero, suc, _+_, _-_}
-use mathlib.Core.Bool.{Bool, true, cond, not, _&&_, _||_}
-use mathlib.Core.List.{List, [], _∷_, reverse}
+use mathlib.Core.Path.{_≡_}
+use mathlib.Core.Bool.{Bool, true, false, cond, not, _&&_}
+use mathlib.Core.List.{List, [], _∷_, map, reverse, Perm}
 use lib.Dec.{eqb}
 use lib.ListN.{length, getD}
 use lib.Ieee.{Float, nan, lt, le, isNan}
@@ -14,9 +15,6 @@ use Rattle.rule_types.specs.declared.label.Label.{Label}
 use Rattle.rule_types.specs.declared.label.Label.the-variants.{Other, RisingThreeMethods, FallingThreeMethods, Bars5, Bars6, Bars7, Bars8, Bars9, Bottom, Top}
 use Rattle.rule_types.specs.declared.label.Pair.{Pair}
 use Rattle.growing_rules.specs.declared.Growing.{Growing}
-use Rattle.growing_rules.specs.declared.Leaders.{Leaders}
-use Rattle.growing_rules.specs.declared.Shape.{Shape}
-use Rattle.growing_rules.specs.declared.Shape.the-variants.{ThreeMethods, Tower}
 use Rattle.rule_types.specs.Label.{codeOf, pairOf, pairA}
 use Rattle.rule_types.specs.Number.{aHalf}
 
@@ -87,6 +85,17 @@ bodiesDown (b ∷ s) = insertOf (bodyOf b) (bodiesDown s)
 unfoldable pub bodiesUp : List Bar → List Float
 bodiesUp s = reverse (bodiesDown s)
 
+-- none is above its neighbour behind it
+abbrev pub NonFalling : List Float → Type 0
+NonFalling [] = Unit {0}
+NonFalling (a ∷ []) = Unit {0}
+NonFalling (a ∷ b ∷ rest) = (lt b a ≡ false) × NonFalling (b ∷ rest)
+
+-- what 17 reads is that of every window: its bodies, no more and no fewer, and in this order; proofs/BodyOrder shows it
+pub record BodyOrder : Type 0 where
+  pub non-falling : (s : List Bar) → NonFalling (bodiesUp s)
+  pub the-bodies : (s : List Bar) → Perm (bodiesUp s) (map bodyOf s)
+
 -- the last but one of a list, NaN where there is none
 unfoldable pub lastButOne : List Float → Float
 lastButOne [] = nan
@@ -130,29 +139,3 @@ taXing w = firstMatch tower 5 5 w
 -- ---- both at once, as a row of all recognisers has them
 abbrev pub growingOf : List Bar → Growing
 growingOf w = record { methods = sanFaV20221118 w; tower = taXing w }
-
--- ---- what the code's search tries
-abbrev pub checkOf : Shape → List Bar → Label
-checkOf ThreeMethods = threeMethods
-checkOf Tower = tower
-
--- ---- what the code's scan of the bodies carries: the two greatest, NaN where there is none, and whether no body is NaN
-
-unfoldable pub leadersOf : List Bar → Leaders
-leadersOf s = record { first = getD (bodiesDown s) 0 nan; second = getD (bodiesDown s) 1 nan; known = bodiesKnown s }
-
--- an older bar's body x comes in front
-unfoldable pub joined : Float → Leaders → Leaders
-joined x l = record {
-  first = cond (lt x (l .first)) (l .first) x;
-  second = cond (lt x (l .first)) (cond (lt x (l .second)) (l .second) x) (l .first);
-  known = not (isNan x) && l .known;
-}
-
--- ---- what the code tests before it searches: that the newest bar rises and no high of the three before it is above its close, or that
--- it falls and no low is below its close; a NaN is neither
-unfoldable pub standsOut : Bar → Bar → Bar → Bar → Bool
-standsOut b1 b2 b3 b4 =
-    let c = b1 .close in
-    lt (b1 .«open») c && not (lt c (b2 .high)) && not (lt c (b3 .high)) && not (lt c (b4 .high))
-    || lt c (b1 .«open») && not (lt (b2 .low) c) && not (lt (b3 .low) c) && not (lt (b4 .low) c)

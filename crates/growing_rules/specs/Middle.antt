@@ -1,24 +1,26 @@
--- 02, P2: the extremes of a window's middle, the bars between its first and its last, which run along as the window grows; and what the code
--- asks of them. No public promise cites this file: those of 4 and 17 are in GrowingRule.
+-- 02, P2: the extremes of a window's middle, the bars between its first and its last, which run along as the window grows; what the code
+-- asks of them; and what its scan of 17's bodies carries. No public promise cites this file: those of 4 and 17 are in GrowingRule.
 use Prim.Native.Nat.{ℕ, _-_, min}
 use mathlib.Core.Bool.{Bool, cond, not, _&&_, _||_}
 use lib.Dec.{ltb}
-use lib.ListN.{length}
+use lib.ListN.{length, getD}
 use mathlib.Core.List.{List}
-use lib.Ieee.{lt, isNan}
+use lib.Ieee.{Float, nan, lt, isNan}
 use Rattle.measures.specs.Bar.{Bar}
 use Rattle.measures.specs.declared.folds.Column.the-variants.{High, Low}
 use Rattle.measures.specs.Price.{maxOf, minOf}
 use Rattle.measures.specs.Window.{windowOf, backOf}
 use Rattle.measures.specs.Fold.{columnOf, everyOf, extremesOf}
+use Rattle.rule_types.specs.declared.label.Label.{Label}
 use Rattle.rule_types.specs.declared.label.Pair.{Pair}
 use Rattle.rule_types.specs.Label.{pairA}
 use Rattle.growing_rules.specs.declared.Ends.{Ends}
 use Rattle.growing_rules.specs.declared.Growing.{Growing}
+use Rattle.growing_rules.specs.declared.Leaders.{Leaders}
 use Rattle.growing_rules.specs.declared.Shape.{Shape}
 use Rattle.growing_rules.specs.declared.Shape.the-variants.{ThreeMethods, Tower}
 use Rattle.growing_rules.specs.declared.middle.Middle.{Middle}
-use Rattle.growing_rules.specs.GrowingRule.{firstMatch, innerOf, checkOf}
+use Rattle.growing_rules.specs.GrowingRule.{firstMatch, innerOf, threeMethods, bodiesDown, bodiesKnown, tower}
 
 -- ---- the running extremes
 
@@ -87,9 +89,27 @@ beyond last m = lt (last .«open») (last .close) && lt (m .highest) (last .clos
 abbrev pub noMatch : Growing
 noMatch = record { methods = pairA; tower = pairA }
 
+-- what a window is tried for
+abbrev pub checkOf : Shape → List Bar → Label
+checkOf ThreeMethods = threeMethods
+checkOf Tower = tower
+
 -- what is found of a shape in the windows of fewer than n bars, and of fewer than its end
 unfoldable pub foundOf : Shape → ℕ → List Bar → ℕ → Pair
 foundOf shape end w n = firstMatch (checkOf shape) (min n end - 5) 5 w
 
 abbrev pub searchedOf : Ends → List Bar → ℕ → Growing
 searchedOf ends w n = record { methods = foundOf ThreeMethods (ends .methods) w n; tower = foundOf Tower (ends .tower) w n }
+
+-- ---- what the scan of the bodies carries: the two greatest, NaN where there is none, and whether no body is NaN
+
+unfoldable pub leadersOf : List Bar → Leaders
+leadersOf s = record { first = getD (bodiesDown s) 0 nan; second = getD (bodiesDown s) 1 nan; known = bodiesKnown s }
+
+-- an older bar's body x comes in front
+unfoldable pub joined : Float → Leaders → Leaders
+joined x l = record {
+  first = cond (lt x (l .first)) (l .first) x;
+  second = cond (lt x (l .first)) (cond (lt x (l .second)) (l .second) x) (l .first);
+  known = not (isNan x) && l .known;
+}

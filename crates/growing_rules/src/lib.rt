@@ -3,15 +3,13 @@
 // for every input.
 ghost use mathlib.Core.Path.{_≡_};
 ghost use Prim.Native.Nat.{_+_, _-_, _≤_, _<_};
-ghost use mathlib.Core.Bool.{true, _||_};
+ghost use mathlib.Core.Bool.{true};
 ghost use mathlib.Core.List.{[]};
-ghost use lib.Dec.{ltb};
-ghost use lib.ListN.{length};
 ghost use Rattle.measures.specs.Bar.{barsOf};
 ghost use Rattle.measures.specs.Window.{backOf};
 ghost use Rattle.growing_rules.specs.declared.Shape.the-variants as shapes;
-ghost use Rattle.growing_rules.specs.GrowingRule.{sizeLabel, firstMatch, firstOf, lastOf, innerOf, threeMethods, sanFaV20221118, leadersOf, joined, endsLead, tower as towerOf, checkOf, taXing, growingOf, standsOut};
-ghost use Rattle.growing_rules.specs.Middle.{middleOf, middleAt, mayRise, mayFall, mayBeTop, mayBeBottom, mayBe, beyond as beyondOf, noMatch, foundOf, searchedOf};
+ghost use Rattle.growing_rules.specs.GrowingRule.{sizeLabel, firstMatch, firstOf, lastOf, innerOf, threeMethods, sanFaV20221118, endsLead, tower as towerOf, taXing, growingOf};
+ghost use Rattle.growing_rules.specs.Middle.{leadersOf, joined, checkOf, middleOf, middleAt, mayRise, mayFall, mayBeTop, mayBeBottom, mayBe, beyond as beyondOf, noMatch, foundOf, searchedOf};
 use measures::Bar;
 use measures::Column;
 use middle::Middle;
@@ -260,37 +258,13 @@ fn find_at(shape: Shape, found: Pair, w: &[f64], n: usize) -> Pair
     found
 }
 
-// Whether the newest bar rises and no high of the three before it is above its close, or it falls and no low is below it.
-fn stands_out(b1: Bar, b2: Bar, b3: Bar, b4: Bar) -> bool
-    ensures { λ r. ⌜ r ≡ standsOut b1 b2 b3 b4 ⌝ }
-{
-    let c = b1.close;
-    let up = (b1.open < c) & !(c < b2.high) & !(c < b3.high) & !(c < b4.high);
-    let down = (c < b1.open) & !(b2.low < c) & !(b3.low < c) & !(b4.low < c);
-    up | down
-}
-
-// Whether the search is worth its time: no window of 5 or more bars has either shape unless its newest bar stands out, and most bars
-// do not. With fewer bars, whose pair the table passes over, the search decides.
-fn may_match(w: &[f64]) -> bool
-    ensures { λ r. ⌜ r ≡ (ltb (length (barsOf (now (w .entry)))) 5 || standsOut (backOf (barsOf (now (w .entry))) 1) (backOf (barsOf (now (w .entry))) 2) (backOf (barsOf (now (w .entry))) 3) (backOf (barsOf (now (w .entry))) 4)) ⌝ }
-{
-    let b1 = measures::back(w, 1);
-    let b2 = measures::back(w, 2);
-    let b3 = measures::back(w, 3);
-    let b4 = measures::back(w, 4);
-    (measures::count(w) < 5) | stands_out(b1, b2, b3, b4)
-}
-
 // Whether the newest bar's close is still beyond the middle: where it is not, no longer window matches.
 fn is_beyond(last: Bar, m: Middle) -> bool
     ensures { λ r. ⌜ r ≡ beyondOf last m ⌝ }
 {
-    if last.close > last.open {
-        last.close > m.highest
-    } else {
-        (last.close < last.open) & (last.close < m.lowest)
-    }
+    let up = (last.close > last.open) & (last.close > m.highest);
+    let down = (last.close < last.open) & (last.close < m.lowest);
+    up | down
 }
 
 // The pairs of 4 and 17 over the same window.
@@ -359,22 +333,23 @@ fn try_window(ends: Ends, found: Growing, w: &[f64], n: usize, m: Middle) -> Gro
     Growing { methods, tower }
 }
 
-// The search, for both recognisers at once: each bar of the middle enters its extremes once.
-fn search(ends: Ends, w: &[f64]) -> Growing
+// The search, for both recognisers at once, from the first window's middle: each bar enters the extremes once.
+fn search(ends: Ends, w: &[f64], first: Middle) -> Growing
+    requires { ⌜ first ≡ middleAt (barsOf (now w)) 5 ⌝ }
     ensures { λ r. ⌜ r ≡ searchedOf ends (barsOf (now (w .entry))) 10 ⌝ }
 {
     let last = measures::back(w, 1);
-    let mut m = first_middle(w);
+    let mut m = first;
     let mut found = no_match();
     let mut n = 5;
     while n < TOWER_END {
+        found = try_window(ends, found, w, n, m);
+        m = grow(m, w, n);
+        n += 1;
         let beyond = is_beyond(last, m);
         if !beyond {
             return found;
         }
-        found = try_window(ends, found, w, n, m);
-        m = grow(m, w, n);
-        n += 1;
     }
     found
 }
@@ -382,13 +357,14 @@ fn search(ends: Ends, w: &[f64]) -> Growing
 pub fn san_fa_v20221118(w: &[f64]) -> Pair
     ensures { λ r. ⌜ r ≡ sanFaV20221118 (barsOf (now (w .entry))) ⌝ }
 {
-    let may = may_match(w);
-    if may {
+    let m = first_middle(w);
+    let beyond = is_beyond(measures::back(w, 1), m);
+    if beyond {
         let ends = Ends {
             methods: METHODS_END,
             tower: 0,
         };
-        let found = search(ends, w);
+        let found = search(ends, w, m);
         found.methods
     } else {
         pair_a()
@@ -398,13 +374,14 @@ pub fn san_fa_v20221118(w: &[f64]) -> Pair
 pub fn ta_xing(w: &[f64]) -> Pair
     ensures { λ r. ⌜ r ≡ taXing (barsOf (now (w .entry))) ⌝ }
 {
-    let may = may_match(w);
-    if may {
+    let m = first_middle(w);
+    let beyond = is_beyond(measures::back(w, 1), m);
+    if beyond {
         let ends = Ends {
             methods: 0,
             tower: TOWER_END,
         };
-        let found = search(ends, w);
+        let found = search(ends, w, m);
         found.tower
     } else {
         pair_a()
@@ -415,13 +392,14 @@ pub fn ta_xing(w: &[f64]) -> Pair
 pub fn growing_pairs(w: &[f64]) -> Growing
     ensures { λ r. ⌜ r ≡ growingOf (barsOf (now (w .entry))) ⌝ }
 {
-    let may = may_match(w);
-    if may {
+    let m = first_middle(w);
+    let beyond = is_beyond(measures::back(w, 1), m);
+    if beyond {
         let ends = Ends {
             methods: METHODS_END,
             tower: TOWER_END,
         };
-        search(ends, w)
+        search(ends, w, m)
     } else {
         no_match()
     }

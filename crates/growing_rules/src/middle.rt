@@ -1,6 +1,6 @@
 // The middle of a window, the bars between its first and its last: their extremes run along as the window grows.
 ghost use mathlib.Core.Path.{_≡_};
-ghost use mathlib.Core.List.{[]};
+ghost use mathlib.Core.List.{[], _∷_};
 ghost use Rattle.measures.specs.Bar.{barsOf};
 ghost use Rattle.growing_rules.specs.Middle.{middleOf, entered, grownBy, middleAt};
 use measures::Bar;
@@ -47,12 +47,39 @@ pub(crate) fn grow(m: Middle, w: &[f64], n: usize) -> Middle
     }
 }
 
-// The middle of the first window that is tried.
+// The middle of three bars, from the oldest: its extremes are never NaN, so that one comparison a price is enough.
+fn middle_of_three(old: Bar, between: Bar, new: Bar) -> Middle
+    ensures { λ r. ⌜ r ≡ middleOf (old ∷ between ∷ new ∷ []) ⌝ }
+{
+    let mut top = measures::price::minus_infinity();
+    let mut bottom = measures::price::plus_infinity();
+    top = measures::pick(old.high > top, old.high, top);
+    bottom = measures::pick(old.low < bottom, old.low, bottom);
+    top = measures::pick(between.high > top, between.high, top);
+    bottom = measures::pick(between.low < bottom, between.low, bottom);
+    Middle {
+        highest: measures::pick(new.high > top, new.high, top),
+        lowest: measures::pick(new.low < bottom, new.low, bottom),
+        highs: !measures::is_nan(old.high)
+            & (!measures::is_nan(between.high) & !measures::is_nan(new.high)),
+        lows: !measures::is_nan(old.low)
+            & (!measures::is_nan(between.low) & !measures::is_nan(new.low)),
+    }
+}
+
+// The middle of the first window that is tried. Of fewer than five bars those between the ends enter one by one.
 pub(crate) fn first_middle(w: &[f64]) -> Middle
     ensures { λ r. ⌜ r ≡ middleAt (barsOf (now (w .entry))) 5 ⌝ }
 {
-    let none = no_middle();
-    let one = grow(none, w, 2);
-    let two = grow(one, w, 3);
-    grow(two, w, 4)
+    if measures::count(w) < 5 {
+        let none = no_middle();
+        let one = grow(none, w, 2);
+        grow(one, w, 3)
+    } else {
+        middle_of_three(
+            measures::back(w, 4),
+            measures::back(w, 3),
+            measures::back(w, 2),
+        )
+    }
 }

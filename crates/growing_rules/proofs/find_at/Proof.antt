@@ -3,8 +3,7 @@ use mathlib.Core.Path.{sym, _∙_}
 use native.Mathlib.Omega.{arith}
 use borrow.Author.Needs.{needs}
 use Rattle.measures.specs.Bar.{barsOf}
-use Rattle.growing_rules.specs.GrowingRule.{checkOf}
-use Rattle.growing_rules.specs.Middle.{middleAt}
+use Rattle.growing_rules.specs.Middle.{checkOf, middleAt}
 use Rattle.growing_rules.proofs.GrowingLaws.{match-stays, match-hit, match-miss}
 use Rattle.growing_rules.proofs.MiddleLaws.{first-at, last-at}
 use Rattle.growing_rules.proofs.find_at.Statement.{statement}

@@ -1,5 +1,5 @@
 -- The loop's invariant: the extremes of the middle at n bars, and what is found in the windows of fewer. Assumes nothing.
-use Prim.Native.Nat.{_-_, _≤_}
+use Prim.Native.Nat.{_+_, _-_, _≤_}
 use mathlib.Core.Path.{_≡_, _∙_}
 use native.Mathlib.Omega.{arith}
 use borrow.Author.Tests.{not-true}
@@ -12,41 +12,44 @@ use Rattle.growing_rules.proofs.search.Statement.{statement}
 use Rattle.growing_rules.proofs.search.Tie as tie
 
 abbrev Inv-loop : tie.InvT-loop
-Inv-loop ends w last m₀ found₀ n₀ m found n = (5 ≤ n) × (n ≤ 10) × (m ≡ middleAt (barsOf w) n) × (found ≡ searchedOf ends (barsOf w) n)
+Inv-loop ends w first last found₀ n₀ m found n = (5 ≤ n) × (n ≤ 10) × (m ≡ middleAt (barsOf w) n) × (found ≡ searchedOf ends (barsOf w) n)
 
 abbrev μ-loop : tie.MeasureT-loop
-μ-loop ends w last m₀ found₀ n₀ m found n = 10 - n
+μ-loop ends w first last found₀ n₀ m found n = 10 - n
 
 loop-holds : tie.Need-loop-holds Inv-loop μ-loop
 loop-holds c =
-    let a = c .before .before .before .before .args in
-    (omega arith, omega arith, c .before .first-middle .ensures, c .no-match .ensures ∙ searched-none (a .ends) (barsOf (a .w .now)))
-
-returns : tie.Need-returns Inv-loop μ-loop
-returns c =
-    let tested = c .before in
-    let at-loop = tested .before .before in
-    let read = at-loop .before .before .before in
-    let a = read .before .before .args in
-    let w = barsOf (a .w .now) in
-    let now = at-loop .loop in
-    let unmet = rw (tested .is-beyond .ensures, read .back .ensures, now .inv .2) at (c .if1 .taken) in
-    now .inv .3 ∙ search-ends w (now .n) (omega arith) (omega arith) (not-true (beyond (backOf w 1) (middleAt w (now .n))) unmet) (a .ends)
+    let start = c .before .before .before in
+    (omega arith, omega arith, start .pre, c .no-match .ensures ∙ searched-none (start .args .ends) (barsOf (start .args .w .now)))
 
 try-window-requires : tie.Need-try-window-requires Inv-loop μ-loop
-try-window-requires c κs = let now = c .before .before .before .loop in (omega arith, omega arith, now .inv .3, now .inv .2)
+try-window-requires c κs = let now = c .before .loop in (omega arith, omega arith, now .inv .3, now .inv .2)
 
 add-n : tie.Need-add-n Inv-loop μ-loop
 add-n c = omega arith
+
+returns : tie.Need-returns Inv-loop μ-loop
+returns c =
+    let grown = c .before .before in
+    let tried = grown .before in
+    let at-loop = tried .before .before in
+    let read = at-loop .before .before in
+    let a = read .before .before .args in
+    let w = barsOf (a .w .now) in
+    let now = at-loop .loop in
+    let unmet = rw (c .before .is-beyond .ensures, read .back .ensures, grown .grow .ensures, now .inv .2, at-grown w (now .n) (omega arith)) at (c .if1 .taken) in
+    tried .try-window .ensures ∙ search-ends w (now .n + 1) (omega arith) (omega arith) (not-true (beyond (backOf w 1) (middleAt w (now .n + 1))) unmet) (a .ends)
 
 loop-less : tie.Need-loop-less Inv-loop μ-loop
 loop-less c = omega arith
 
 loop-again : tie.Need-loop-again Inv-loop μ-loop
 loop-again c =
-    let now = c .before .before .before .before .before .loop in
-    let w = barsOf (c .before .before .before .before .before .before .before .before .before .before .args .w .now) in
-    (omega arith, omega arith, c .grow .ensures ∙ rw (now .inv .2) (at-grown w (now .n) (omega arith)), c .before .try-window .ensures)
+    let grown = c .before .before in
+    let at-loop = grown .before .before .before in
+    let now = at-loop .loop in
+    let w = barsOf (at-loop .before .before .before .before .args .w .now) in
+    (omega arith, omega arith, rw (grown .grow .ensures, now .inv .2, at-grown w (now .n) (omega arith)), grown .before .try-window .ensures)
 
 returns-2 : tie.Need-returns-2 Inv-loop μ-loop
 returns-2 c =
@@ -55,4 +58,4 @@ returns-2 c =
     now .inv .3 ∙ rw e
 
 pub search-spec : {M : Type 1} → statement M
-search-spec = tie.close (tie.spec Inv-loop μ-loop (λ c κs. tt) (λ c κs. tt) (λ c κs. tt) loop-holds (λ c κs. tt) returns try-window-requires (λ c κs. tt) add-n loop-less loop-again returns-2)
+search-spec = tie.close (tie.spec Inv-loop μ-loop (λ c κs. tt) (λ c κs. tt) loop-holds try-window-requires (λ c κs. tt) add-n (λ c κs. tt) returns loop-less loop-again returns-2)
