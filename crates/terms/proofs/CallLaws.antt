@@ -26,7 +26,7 @@ use Rattle.terms.specs.declared.events.OpenBar.the-variants.{Nothing}
 use Rattle.terms.specs.declared.events.Carried.{Carried}
 use Rattle.terms.specs.declared.layers.Layer.{Layer}
 use Rattle.trading_hours.specs.Hours.{inHours, validHours, termLength}
-use Rattle.terms.specs.Events.{Event, Close, stepOf, carriedOf, minutesOf}
+use Rattle.terms.specs.Events.{Event, Close, minuteStep, carriedOf, minutesOf}
 use Rattle.terms.specs.Layer.{above, stampsTried, soundCarried, validLayer, runTried, closeTried, runVerdict, closeVerdict, endedIn, layerWith, taken, takenOf}
 use Rattle.trading_hours.proofs.HourLaws.{both}
 use Rattle.bar_box.proofs.PartLaws.{fed-box, fed-sheet}
@@ -155,12 +155,12 @@ module _ (l : Layer) (es : List Event) (sheet : List ℕ) (e : feedVerdict (l .i
 -- ---- what an accepted call carries on keeps the rules
 
 -- after one bar
-pub stamp-sound : (h : Hours) (m : ℕ) (c : Carried) (s : ℕ) (b : Bar) → inHours h s ≡ true → let d = stepOf h m c s b .carried in soundCarried h (d .last) (d .pending) ≡ true
-unfolding stepOf soundCarried
+pub stamp-sound : (h : Hours) (m : ℕ) (c : Carried) (s : ℕ) (b : Bar) → inHours h s ≡ true → let d = minuteStep h m c s b .carried in soundCarried h (d .last) (d .pending) ≡ true
+unfolding minuteStep soundCarried
 stamp-sound h m c s b e = e
 
-pub stamp-last : (h : Hours) (m : ℕ) (c : Carried) (s : ℕ) (b : Bar) → stepOf h m c s b .carried .last ≡ At s
-unfolding stepOf
+pub stamp-last : (h : Hours) (m : ℕ) (c : Carried) (s : ℕ) (b : Bar) → minuteStep h m c s b .carried .last ≡ At s
+unfolding minuteStep
 stamp-last h m c s b = refl
 
 pub stamps-sound : (h : Hours) (m : ℕ) (c : Carried) (ss : List ℕ) (bars : List Bar) → firstTrue (stampsTried h (c .last) ss) ≡ Accepted
@@ -171,7 +171,7 @@ stamps-sound h m c (s ∷ ss) [] e k = k
 stamps-sound h m c (s ∷ ss) (b ∷ bars) e k =
     let ten = none-true _ _ e in
     let eleven = none-true _ _ (ten .1) in
-    stamps-sound h m (stepOf h m c s b .carried) ss bars (rw (stamp-last h m c s b) (eleven .1)) (stamp-sound h m c s b (not-false _ (eleven .0)))
+    stamps-sound h m (minuteStep h m c s b .carried) ss bars (rw (stamp-last h m c s b) (eleven .1)) (stamp-sound h m c s b (not-false _ (eleven .0)))
 
 -- with nothing open
 pub sound-closed : (h : Hours) (last : LastStamp) (p : OpenBar) → soundCarried h last p ≡ true → soundCarried h last Nothing ≡ true

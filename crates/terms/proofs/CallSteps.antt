@@ -27,7 +27,7 @@ use Rattle.terms.specs.declared.layers.Layer.{Layer}
 use Rattle.terms.specs.declared.layers.Taken.{Taken}
 use Rattle.terms.specs.Events.{Event, Close, nothingYet, endedOf, carriedOf, minutesOf}
 use Rattle.terms.specs.Layer.{soundCarried, validLayer, layerWith, endedIn, afterEvents, takenOf, takenSheet, ranOf, ranSheet, closedOf, closedSheet}
-use Rattle.terms.specs.History.{Call, Run, Shut, sheetIn, eventsIn, verdictBy, verdictOn, appended, called, sheetAfter, rowsOfCall}
+use Rattle.terms.specs.History.{Call, Run, Shut, lentSheet, eventsIn, verdictBy, verdictOn, appended, called, sheetAfter, rowsOfCall}
 use mathlib.Core.Bool.{true, _&&_, and-true}
 use Rattle.trading_hours.specs.Hours.{validHours, termLength}
 use Rattle.terms.proofs.EventLaws.{carried-last, carried-append, ended-append, ended-few, length-minutes}
@@ -39,19 +39,19 @@ use Rattle.terms.proofs.CallLaws.{run-meets, close-meets, stamps-sound,
 abbrev verdictAt : Layer → Call → Verdict
 verdictAt l x = verdictBy (l .inner .thresholds) (validLayer (l .hours) (l .minutes) (l .carried)) (l .hours) (l .carried .last) (l .inner .count) x
 
-called-is : (l : Layer) (x : Call) → called l x ≡ takenOf (verdictAt l x) l (eventsIn x) (length (sheetIn x))
+called-is : (l : Layer) (x : Call) → called l x ≡ takenOf (verdictAt l x) l (eventsIn x) (length (lentSheet x))
 unfolding ranOf closedOf
 called-is l (Run prices stamps sheet) = refl
 called-is l (Shut sheet) = refl
 
-sheet-after-is : (l : Layer) (x : Call) → sheetAfter l x ≡ takenSheet (verdictAt l x) l (eventsIn x) (sheetIn x)
+sheet-after-is : (l : Layer) (x : Call) → sheetAfter l x ≡ takenSheet (verdictAt l x) l (eventsIn x) (lentSheet x)
 unfolding ranSheet closedSheet
 sheet-after-is l (Run prices stamps sheet) = refl
 sheet-after-is l (Shut sheet) = refl
 
 -- the box's own feed of the term bars that end is not refused where the call isn't
 pub call-feed : (t : Thresholds) (h : Hours) (m : ℕ) (c : Carried) (n : ℕ) (x : Call) → verdictBy t (validLayer h m c) h (c .last) n x ≡ Accepted
-    → feedVerdict t n (length (pricesOf (endedOf h m c (eventsIn x)))) (length (sheetIn x)) ≡ Accepted
+    → feedVerdict t n (length (pricesOf (endedOf h m c (eventsIn x)))) (length (lentSheet x)) ≡ Accepted
 call-feed t h m c n (Run prices stamps sheet) e =
     let met = run-meets t h m c n (length prices) stamps (length sheet) e in
     let each : length stamps ≡ length (barsOf prices) = met .one-each ∙ sym (length-bars prices) in
@@ -65,15 +65,15 @@ call-feed t h m c n (Shut sheet) e =
     let few = ended-few h m c (Close ∷ []) in
     bars-accepted t n 4 (length sheet) (met .feed) (endedOf h m c (Close ∷ [])) (omega arith)
 
-pub box-accepts : (l : Layer) (x : Call) → called l x .verdict ≡ Accepted → fed (l .inner) (oneFeed (endedIn l (eventsIn x)) (sheetIn x)) .verdict ≡ Accepted
+pub box-accepts : (l : Layer) (x : Call) → called l x .verdict ≡ Accepted → fed (l .inner) (oneFeed (endedIn l (eventsIn x)) (lentSheet x)) .verdict ≡ Accepted
 unfolding fedOf
 box-accepts l x e = call-feed _ _ _ _ _ x (sym (ap (λ (o : Taken). o .verdict) (called-is l x)) ∙ e)
 
 -- the rows that a call fills are no more than a box may count, and its sheet has room for them
-pub rows-fit : (l : Layer) (x : Call) → (called l x .rows ≤ mostBars) × (rowBytes * called l x .rows ≤ length (sheetIn x))
+pub rows-fit : (l : Layer) (x : Call) → (called l x .rows ≤ mostBars) × (rowBytes * called l x .rows ≤ length (lentSheet x))
 rows-fit l x = rw (called-is l x) (go (verdictAt l x) refl)
   where
-    go : (v : Verdict) → verdictAt l x ≡ v → (leaves v 0 (length (endedIn l (eventsIn x))) ≤ mostBars) × (rowBytes * leaves v 0 (length (endedIn l (eventsIn x))) ≤ length (sheetIn x))
+    go : (v : Verdict) → verdictAt l x ≡ v → (leaves v 0 (length (endedIn l (eventsIn x))) ≤ mostBars) × (rowBytes * leaves v 0 (length (endedIn l (eventsIn x))) ≤ length (lentSheet x))
     go Accepted e =
         let f = fits _ _ _ _ (call-feed _ _ _ _ _ x e) in
         let four = length-prices (endedIn l (eventsIn x)) in
@@ -129,19 +129,19 @@ module _ (l : Layer) (start : NoBars (l .inner)) where
   kept-step es x k = rw (verdict-at es x k) at (kept-by (verdictAt (layerOf es) x) es x refl k)
 
   -- an accepted call leaves the layer that the events and its own leave
-  accepted-layer : (es : List Event) (x : Call) → verdictAt (layerOf es) x ≡ Accepted → afterEvents (layerOf es) (eventsIn x) (length (sheetIn x)) ≡ layerOf (es ++ eventsIn x)
+  accepted-layer : (es : List Event) (x : Call) → verdictAt (layerOf es) x ≡ Accepted → afterEvents (layerOf es) (eventsIn x) (length (lentSheet x)) ≡ layerOf (es ++ eventsIn x)
   accepted-layer es x e =
       let new = eventsIn x in
       let feed = call-feed _ _ _ _ _ x e in
       rw (
-        box-is (layerOf es) new (sheetIn x) feed,
+        box-is (layerOf es) new (lentSheet x) feed,
         taken-append (l .inner) (start .all-places) (ended es) (endedOf (l .hours) (l .minutes) (carried es) new),
         ← ended-append (l .hours) (l .minutes) nothingYet es new,
         ← carried-append (l .hours) (l .minutes) nothingYet es new,
       )
 
   layer-by : (v : Verdict) (es : List Event) (x : Call) → verdictAt (layerOf es) x ≡ v
-      → leaves v (layerOf es) (afterEvents (layerOf es) (eventsIn x) (length (sheetIn x))) ≡ layerOf (leaves v es (es ++ eventsIn x))
+      → leaves v (layerOf es) (afterEvents (layerOf es) (eventsIn x) (length (lentSheet x))) ≡ layerOf (leaves v es (es ++ eventsIn x))
   layer-by Accepted es x e = accepted-layer es x e
   layer-by (Denied r) es x e = refl
 
@@ -154,7 +154,7 @@ module _ (l : Layer) (start : NoBars (l .inner)) where
   -- the rows that a call gives are those of its term bars over all term bars before them
   rows-by : (v : Verdict) (es : List Event) (x : Call) → verdictAt (layerOf es) x ≡ v
       → let new = endedIn (layerOf es) (eventsIn x) in
-      take (rowBytes * leaves v 0 (length new)) (takenSheet v (layerOf es) (eventsIn x) (sheetIn x))
+      take (rowBytes * leaves v 0 (length new)) (takenSheet v (layerOf es) (eventsIn x) (lentSheet x))
       ≡ leaves v [] (rowsOf (l .inner .thresholds) (length (ended es)) (ended es) new)
   rows-by Accepted es x e =
       let t = l .inner .thresholds in
@@ -162,12 +162,12 @@ module _ (l : Layer) (start : NoBars (l .inner)) where
       let new = endedIn (layerOf es) (eventsIn x) in
       let feed = call-feed _ _ _ _ _ x e in
       rw (
-        sheet-is (layerOf es) (eventsIn x) (sheetIn x) feed,
+        sheet-is (layerOf es) (eventsIn x) (lentSheet x) feed,
         kept-after (l .inner) start old,
         count-after (l .inner) start old,
         rows-newest places (omega arith) t (length old) old new,
       )
-      (take-at (rowsOf t (length old) old new) (drop (0 + length (rowsOf t (length old) old new)) (sheetIn x)) (rowBytes * length new) (length-rows t (length old) old new))
+      (take-at (rowsOf t (length old) old new) (drop (0 + length (rowsOf t (length old) old new)) (lentSheet x)) (rowBytes * length new) (length-rows t (length old) old new))
   rows-by (Denied r) es x e = refl
 
   pub rows-step : (es : List Event) (x : Call) → Kept es
@@ -180,5 +180,5 @@ module _ (l : Layer) (start : NoBars (l .inner)) where
 
   -- where the events say that a call is accepted, a feed of its term bars is
   pub events-feed : (es : List Event) (x : Call) → Kept es → on es x ≡ Accepted
-      → feedVerdict (l .inner .thresholds) (length (ended es)) (length (pricesOf (endedOf (l .hours) (l .minutes) (carried es) (eventsIn x)))) (length (sheetIn x)) ≡ Accepted
+      → feedVerdict (l .inner .thresholds) (length (ended es)) (length (pricesOf (endedOf (l .hours) (l .minutes) (carried es) (eventsIn x)))) (length (lentSheet x)) ≡ Accepted
   events-feed es x k e = rw (count-after (l .inner) start (ended es)) at (call-feed _ _ _ (carried es) _ x (verdict-at es x k ∙ e))

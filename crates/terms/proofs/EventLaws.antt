@@ -17,10 +17,10 @@ use Rattle.trading_hours.proofs.HourLaws.{both}
 use Rattle.terms.specs.declared.events.OpenBar.{OpenBar}
 use Rattle.terms.specs.declared.events.OpenBar.the-variants.{Nothing, Begun}
 use Rattle.terms.specs.declared.events.Carried.{Carried}
-use Rattle.terms.specs.Events.{Event, Minute, Close, barsIn, endedAt, carriedAt, endedOf, carriedOf, lastOf, minutesOf, stepOf}
+use Rattle.terms.specs.Events.{Event, Minute, Close, openBars, endedAt, carriedAt, endedOf, carriedOf, lastOf, minutesOf, minuteStep}
 use Rattle.terms.specs.Passing.{someIn}
 
-pub few-in : (p : OpenBar) → length (barsIn p) ≤ 1
+pub few-in : (p : OpenBar) → length (openBars p) ≤ 1
 few-in Nothing = omega arith
 few-in (Begun b) = omega arith
 
@@ -48,7 +48,7 @@ module _ (h : Hours) (m : ℕ) where
 
   -- the stamp that is kept is that of the last bar
   pub carried-last : (c : Carried) (es : List Event) → carriedOf h m c es .last ≡ lastOf (c .last) es
-  unfolding carriedOf lastOf stepOf
+  unfolding carriedOf lastOf minuteStep
   carried-last c [] = refl
   carried-last c (Minute s b ∷ es) = carried-last (carriedAt h m c (Minute s b)) es
   carried-last c (Close ∷ es) = carried-last (carriedAt h m c Close) es
@@ -56,7 +56,7 @@ module _ (h : Hours) (m : ℕ) where
   -- ---- how many end
 
   few-at : (c : Carried) (e : Event) → length (endedAt h m c e) ≤ 1
-  few-at c (Minute s b) = few-in (stepOf h m c s b .ended)
+  few-at c (Minute s b) = few-in (minuteStep h m c s b .ended)
   few-at c Close = few-in (c .pending)
 
   -- no more than there are events
@@ -99,9 +99,9 @@ module _ (h : Hours) (m : ℕ) (c : Carried) (ss : List ℕ) (bars : List Bar) (
   events = drop from (minutesOf ss bars)
 
   abbrev next : Step
-  next = stepOf h m (carriedOf h m c (take k events)) (getD ss (from + k) 0) (getD bars (from + k) noBar)
+  next = minuteStep h m (carriedOf h m c (take k events)) (getD ss (from + k) 0) (getD bars (from + k) noBar)
 
-  pub ended-next : endedOf h m c (take (k + 1) events) ≡ endedOf h m c (take k events) ++ barsIn (next .ended)
+  pub ended-next : endedOf h m c (take (k + 1) events) ≡ endedOf h m c (take k events) ++ openBars (next .ended)
   ended-next =
       let e = Minute (getD ss (from + k) 0) (getD bars (from + k) noBar) in
       rw (next-minute ss bars from k within each, ended-append h m c (take k events) (e ∷ []), ended-one h m (carriedOf h m c (take k events)) e)
@@ -114,15 +114,15 @@ module _ (h : Hours) (m : ℕ) (c : Carried) (ss : List ℕ) (bars : List Bar) (
 -- from the first on
 module _ (h : Hours) (m : ℕ) (c : Carried) (ss : List ℕ) (bars : List Bar) (k : ℕ) (within : k < length ss) (each : length ss ≡ length bars) where
   abbrev front : Step
-  front = stepOf h m (carriedOf h m c (take k (minutesOf ss bars))) (getD ss k 0) (getD bars k noBar)
+  front = minuteStep h m (carriedOf h m c (take k (minutesOf ss bars))) (getD ss k 0) (getD bars k noBar)
 
-  pub ended-front : endedOf h m c (take (k + 1) (minutesOf ss bars)) ≡ endedOf h m c (take k (minutesOf ss bars)) ++ barsIn (front .ended)
+  pub ended-front : endedOf h m c (take (k + 1) (minutesOf ss bars)) ≡ endedOf h m c (take k (minutesOf ss bars)) ++ openBars (front .ended)
   ended-front = rw (zero-add k) at (ended-next h m c ss bars 0 k (rw (zero-add k) within) each)
 
   pub carried-front : carriedOf h m c (take (k + 1) (minutesOf ss bars)) ≡ front .carried
   carried-front = rw (zero-add k) at (carried-next h m c ss bars 0 k (rw (zero-add k) within) each)
 
-pub none-in : (p : OpenBar) → someIn p ≡ false → barsIn p ≡ []
+pub none-in : (p : OpenBar) → someIn p ≡ false → openBars p ≡ []
 none-in Nothing e = refl
 none-in (Begun b) e = cc
 

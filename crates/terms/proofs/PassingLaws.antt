@@ -17,7 +17,7 @@ use Rattle.terms.specs.declared.events.LastStamp.{LastStamp}
 use Rattle.terms.specs.declared.events.LastStamp.the-variants.{Never, At}
 use Rattle.terms.specs.declared.events.Carried.{Carried}
 use Rattle.trading_hours.specs.Hours.{inHours}
-use Rattle.terms.specs.Events.{goesOn, stepOf, carriedOf, minutesOf}
+use Rattle.terms.specs.Events.{inTermOf, minuteStep, carriedOf, minutesOf}
 use Rattle.terms.specs.Layer.{above, soundCarried, validLayer, stampsTried}
 use Rattle.trading_hours.specs.TermRule.{endOf}
 use Rattle.terms.specs.Passing.{endAfter, EndKnown, Ready}
@@ -41,10 +41,10 @@ module _ (h : Hours) (m end s : ℕ) where
       (there .0, rule .same-end s a (there .1) ∙ sym e)
 
   -- it goes on in that term exactly if it lies before the end
-  pub end-goes-on : (last : LastStamp) → EndKnown h m last end → above last s ≡ true → inHours h s ≡ true → goesOn h m last s ≡ ltb s end
-  unfolding above endAfter soundCarried goesOn
-  end-goes-on Never k up there = rw (k .end-is) (sym (le-ltb s 0 (omega arith)))
-  end-goes-on (At a) k up there =
+  pub end-in-term : (last : LastStamp) → EndKnown h m last end → above last s ≡ true → inHours h s ≡ true → inTermOf h m last s ≡ ltb s end
+  unfolding above endAfter soundCarried inTermOf
+  end-in-term Never k up there = rw (k .end-is) (sym (le-ltb s 0 (omega arith)))
+  end-in-term (At a) k up there =
       let rule = end-rule h m (k .some) (k .valid) in
       let later = ltb-true a s up in
       rule .same-before a s (k .sound) there (omega arith) ∙ rw (k .end-is)
@@ -92,7 +92,7 @@ ready-after h m c (s ∷ ss) [] (suc k) each r = absurd (let z : ⊥ = omega ari
 ready-after h m c (s ∷ ss) (b ∷ bars) (suc k) each r =
     let ten = none-true _ _ (r .rising) in
     let eleven = none-true _ _ (ten .1) in
-    ready-after h m (stepOf h m c s b .carried) ss bars k (omega arith)
+    ready-after h m (minuteStep h m c s b .carried) ss bars k (omega arith)
     record { some = r .some; valid = r .valid; sound = stamp-sound h m c s b (not-false _ (eleven .0)); rising = rw (stamp-last h m c s b) (eleven .1) }
 
 -- the next bar of a run, after some

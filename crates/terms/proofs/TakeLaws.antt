@@ -24,7 +24,7 @@ use Rattle.trading_hours.specs.declared.hours.Hours.{Hours}
 use Rattle.trading_hours.proofs.HourLaws.{term-some}
 use Rattle.terms.specs.declared.events.Carried.{Carried}
 use Rattle.terms.specs.declared.layers.Layer.{Layer}
-use Rattle.terms.specs.Events.{Event, endedOf, carriedOf, minutesOf, Close, nothingYet, carriedWith, barsIn}
+use Rattle.terms.specs.Events.{Event, endedOf, carriedOf, minutesOf, Close, nothingYet, carriedWith, openBars}
 use Rattle.terms.specs.Layer.{layerWith, runVerdictOf, endedIn, taken, takenOf, takenSheet, ranOf, ranSheet, wholeDay, makeVerdict, madeBy, madeOf, closeVerdictOf, closedOf, closedSheet}
 use Rattle.terms.specs.Passing.{Ready, progressOf}
 use Rattle.terms.proofs.EventLaws.{carried-append, ended-append, ended-few, length-minutes, few-in, ended-one}
@@ -158,7 +158,7 @@ made-is t h m (Denied r) e = rw (made-valid standardSet standard-valid) (ap (λ 
 
 module _ (l : Layer) (sheet : List ℕ) (all : length (l .inner .bars) ≡ places) where
   abbrev pub closing : Verdict → List Bar
-  closing v = barsIn (leaves v Nothing (l .carried .pending))
+  closing v = openBars (leaves v Nothing (l .carried .pending))
 
   -- where something ends the box's own feed is accepted, and the sheet has room for a row
   pub close-fits : (v : Verdict) → closeVerdictOf l (length sheet) ≡ v

@@ -30,9 +30,9 @@ abbrev pub nothingYet : Carried
 nothingYet = carriedWith Never Nothing
 
 -- whether a stamp lies in the term of the last one; stamps rise, so another term is a later one
-unfoldable pub goesOn : Hours → ℕ → LastStamp → ℕ → Bool
-goesOn h m Never stamp = false
-goesOn h m (At last) stamp = sameTerm (termOf h m last) (termOf h m stamp)
+unfoldable pub inTermOf : Hours → ℕ → LastStamp → ℕ → Bool
+inTermOf h m Never stamp = false
+inTermOf h m (At last) stamp = sameTerm (termOf h m last) (termOf h m stamp)
 
 -- ---- one event
 
@@ -56,22 +56,22 @@ endedBy (Begun a) false = Begun a
 abbrev pub stepBy : Bool → Carried → ℕ → Bar → Step
 stepBy same c stamp b = record { ended = endedBy (c .pending) same; carried = carriedWith (At stamp) (opened (c .pending) same b) }
 
-unfoldable pub stepOf : Hours → ℕ → Carried → ℕ → Bar → Step
-stepOf h m c stamp b = stepBy (goesOn h m (c .last) stamp) c stamp b
+unfoldable pub minuteStep : Hours → ℕ → Carried → ℕ → Bar → Step
+minuteStep h m c stamp b = stepBy (inTermOf h m (c .last) stamp) c stamp b
 
 -- one bar or none: "Terms without a bar give none"
-abbrev pub barsIn : OpenBar → List Bar
-barsIn Nothing = []
-barsIn (Begun b) = b ∷ []
+abbrev pub openBars : OpenBar → List Bar
+openBars Nothing = []
+openBars (Begun b) = b ∷ []
 
 -- what an event ends, and what is carried on after it: "or the caller closes the day". A close keeps the stamp and leaves nothing open, so that
 -- "a bar that comes after a close within its own term begins a term bar of its own"
 abbrev pub endedAt : Hours → ℕ → Carried → Event → List Bar
-endedAt h m c (Minute stamp b) = barsIn (stepOf h m c stamp b .ended)
-endedAt h m c Close = barsIn (c .pending)
+endedAt h m c (Minute stamp b) = openBars (minuteStep h m c stamp b .ended)
+endedAt h m c Close = openBars (c .pending)
 
 abbrev pub carriedAt : Hours → ℕ → Carried → Event → Carried
-carriedAt h m c (Minute stamp b) = stepOf h m c stamp b .carried
+carriedAt h m c (Minute stamp b) = minuteStep h m c stamp b .carried
 carriedAt h m c Close = carriedWith (c .last) Nothing
 
 -- ---- a list of events: the term bars that end in it, and what is left
@@ -113,13 +113,13 @@ termIn (b ∷ bars) = (b ∷ bars) ∷ []
 unfoldable pub endedTerms : Hours → ℕ → LastStamp → List Bar → List Event → List (List Bar)
 endedTerms h m last bars [] = []
 endedTerms h m last bars (Minute s b ∷ es) =
-    cond (goesOn h m last s) (endedTerms h m (At s) (bars ++ (b ∷ [])) es) (termIn bars ++ endedTerms h m (At s) (b ∷ []) es)
+    cond (inTermOf h m last s) (endedTerms h m (At s) (bars ++ (b ∷ [])) es) (termIn bars ++ endedTerms h m (At s) (b ∷ []) es)
 endedTerms h m last bars (Close ∷ es) = termIn bars ++ endedTerms h m last [] es
 
 -- and the bars of the term that is left open
 unfoldable pub openTerm : Hours → ℕ → LastStamp → List Bar → List Event → List Bar
 openTerm h m last bars [] = bars
-openTerm h m last bars (Minute s b ∷ es) = openTerm h m (At s) (cond (goesOn h m last s) (bars ++ (b ∷ [])) (b ∷ [])) es
+openTerm h m last bars (Minute s b ∷ es) = openTerm h m (At s) (cond (inTermOf h m last s) (bars ++ (b ∷ [])) (b ∷ [])) es
 openTerm h m last bars (Close ∷ es) = openTerm h m last [] es
 
 abbrev pub openOf : List Bar → OpenBar

@@ -28,9 +28,9 @@ pub data Call : Type 0 where
   Run : List Float → List ℕ → List ℕ → Call
   Shut : List ℕ → Call
 
-abbrev pub sheetIn : Call → List ℕ
-sheetIn (Run prices stamps sheet) = sheet
-sheetIn (Shut sheet) = sheet
+abbrev pub lentSheet : Call → List ℕ
+lentSheet (Run prices stamps sheet) = sheet
+lentSheet (Shut sheet) = sheet
 
 -- ---- the account: one list of events
 
@@ -130,7 +130,7 @@ pub record TermCalls : Type 0 where
       → eventsAfter (l .inner .thresholds) (l .hours) (l .minutes) [] xs ≡ eventsAfter (l .inner .thresholds) (l .hours) (l .minutes) [] ys
       → (layerAfter l xs ≡ layerAfter l ys) × (joinedRows l xs ≡ joinedRows l ys)
   -- the box's own feed of the term bars that end in a call is never refused where the call isn't, whatever layer is handed in
-  pub box-accepts : (l : Layer) (x : Call) → called l x .verdict ≡ Accepted → fed (l .inner) (oneFeed (endedIn l (eventsIn x)) (sheetIn x)) .verdict ≡ Accepted
+  pub box-accepts : (l : Layer) (x : Call) → called l x .verdict ≡ Accepted → fed (l .inner) (oneFeed (endedIn l (eventsIn x)) (lentSheet x)) .verdict ≡ Accepted
   -- what making gives is such a layer, with thresholds inside their limits and hours, term length and carried bar that keep the rules; it is the
   -- same for hours with the same windows in use
   pub made : (t : Thresholds) (h : Hours) (m : ℕ) → NoneYet (madeOf t h m .after)

@@ -8,7 +8,7 @@ ghost use Rattle.recognisers.specs.Refusal.{leaves};
 ghost use Rattle.trading_hours.specs.Hours.{inHours};
 ghost use Rattle.trading_hours.specs.TermRule.{endOf};
 ghost use Rattle.terms.specs.declared.events.OpenBar.the-variants.{Nothing};
-ghost use Rattle.terms.specs.Events.{carriedWith, joinedBar, stepBy, stepOf, barsIn, minutesOf};
+ghost use Rattle.terms.specs.Events.{carriedWith, joinedBar, stepBy, minuteStep, openBars, minutesOf};
 ghost use Rattle.terms.specs.Layer.{above};
 ghost use Rattle.terms.specs.Passing.{endAfter, EndKnown, Ready, FilledBy, someIn, JoinedBy};
 use measures::Bar;
@@ -123,7 +123,7 @@ fn step_by(c: Carried, stamp: u32, b: Bar, same: bool) -> Step
 // A bar that comes after what is carried, where the end of the last stamp's term is known.
 pub(crate) fn step_on(h: Hours, m: u32, c: Carried, end: usize, stamp: u32, b: Bar) -> Step
     requires { ⌜ (EndKnown h m (c .last) end) × ((above (c .last) stamp ≡ true) × (inHours h stamp ≡ true)) ⌝ }
-    ensures { λ r. ⌜ r ≡ stepOf h m c stamp b ⌝ }
+    ensures { λ r. ⌜ r ≡ minuteStep h m c stamp b ⌝ }
 {
     step_by(c, stamp, b, (stamp as usize) < end)
 }
@@ -131,7 +131,7 @@ pub(crate) fn step_on(h: Hours, m: u32, c: Carried, end: usize, stamp: u32, b: B
 // The prices of an ended term bar go to a place of a run; the answer is how many bars.
 pub(crate) fn put_ended(ended: OpenBar, run: &mut [f64], place: usize) -> usize
     requires { ⌜ 4 * (place + 1) ≤ length (now run) ⌝ }
-    ensures { λ r. ⌜ (r ≡ length (barsIn ended)) × (now (run .exit) ≡ overlay (now (run .entry)) (4 * place) (pricesOf (barsIn ended))) ⌝ }
+    ensures { λ r. ⌜ (r ≡ length (openBars ended)) × (now (run .exit) ≡ overlay (now (run .entry)) (4 * place) (pricesOf (openBars ended))) ⌝ }
 {
     match ended {
         OpenBar::Nothing => 0,

@@ -10,7 +10,7 @@ use Rattle.measures.specs.Bar.{noBar, barsOf, overlay, pricesOf}
 use Rattle.measures.proofs.Overlay.{overlay-none, overlay-more}
 use Rattle.measures.proofs.PriceLaws.{length-prices, prices-append}
 use Rattle.terms.specs.declared.events.Step.{Step}
-use Rattle.terms.specs.Events.{stepOf, barsIn, endedOf, carriedOf, minutesOf}
+use Rattle.terms.specs.Events.{minuteStep, openBars, endedOf, carriedOf, minutesOf}
 use Rattle.terms.proofs.EventLaws.{turn-of, few-in, ended-few, length-minutes, ended-next, carried-next, passed-some}
 use Rattle.terms.specs.Passing.{endAfter}
 use Rattle.terms.proofs.PassingLaws.{fill-ready}
@@ -172,7 +172,7 @@ loop-less c =
     omega arith
 
 loop-again : tie.Need-loop-again Inv-loop μ-loop
-unfolding pricesOf endAfter stepOf
+unfolding pricesOf endAfter minuteStep
 loop-again c =
     let inside = c .before .before .before .before .before .before .before .before .before in
     let at-loop = inside .before in
@@ -197,9 +197,9 @@ loop-again c =
     let h = args .h in
     let m = args .m in
     let old = endedOf h m (args .c) (take k es) in
-    let made : stepped .step-on .result ≡ stepOf h m (carriedOf h m (args .c) (take k es)) (getD ss (args .from + k) 0) (getD bars (args .from + k) noBar) =
+    let made : stepped .step-on .result ≡ minuteStep h m (carriedOf h m (args .c) (take k es)) (getD ss (args .from + k) 0) (getD bars (args .from + k) noBar) =
     stepped .step-on .ensures ∙ rw (read .bar-or-none .ensures, inv .5) in
-    let new = barsIn (stepped .step-on .result .ended) in
+    let new = openBars (stepped .step-on .result .ended) in
     let more-ended : endedOf h m (args .c) (take (k + 1) es) ≡ old ++ new = ended-next h m (args .c) ss bars (args .from) k within (pre .2) ∙ rw made in
     let few = few-in (stepped .step-on .result .ended) in
     let put = call .put-ended .ensures in

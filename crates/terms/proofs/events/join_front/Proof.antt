@@ -7,7 +7,7 @@ use mathlib.Core.List.{[]}
 use lib.ListN.{length, getD, take}
 use Rattle.measures.specs.Bar.{noBar, barsOf}
 use Rattle.terms.specs.declared.events.Step.{Step}
-use Rattle.terms.specs.Events.{barsIn, stepOf, endedOf, carriedOf, minutesOf}
+use Rattle.terms.specs.Events.{openBars, minuteStep, endedOf, carriedOf, minutesOf}
 use Rattle.terms.specs.Passing.{endAfter}
 use Rattle.terms.proofs.EventLaws.{ended-front, carried-front, none-in}
 use Rattle.terms.proofs.PassingLaws.{front-ready}
@@ -80,7 +80,7 @@ loop-less : tie.Need-loop-less Inv-loop μ-loop
 loop-less c = search needs
 
 loop-again : tie.Need-loop-again Inv-loop μ-loop
-unfolding endAfter stepOf
+unfolding endAfter minuteStep
 loop-again c =
     let ends = c .before in
     let told = ends .before .before in
@@ -101,11 +101,11 @@ loop-again c =
     let m = args .m in
     let es = minutesOf ss bars in
     let within : k < length ss = omega (arith, pre .0) in
-    let made : stepped .step-on .result ≡ stepOf h m (carriedOf h m (args .c) (take k es)) (getD ss k 0) (getD bars k noBar) =
+    let made : stepped .step-on .result ≡ minuteStep h m (carriedOf h m (args .c) (take k es)) (getD ss k 0) (getD bars k noBar) =
     stepped .step-on .ensures ∙ rw (read .bar-or-none .ensures, inv .2) in
     let quiet = none-in (stepped .step-on .result .ended) (sym (told .has-ended .ensures) ∙ ends .before .if1 .left) in (
       search needs,
-      ended-front h m (args .c) ss bars k within (ready .1) ∙ rw (inv .1) (ap (λ (s : Step). barsIn (s .ended)) (sym made) ∙ quiet),
+      ended-front h m (args .c) ss bars k within (ready .1) ∙ rw (inv .1) (ap (λ (s : Step). openBars (s .ended)) (sym made) ∙ quiet),
       ap (λ (s : Step). s .carried) made ∙ sym (carried-front h m (args .c) ss bars k within (ready .1)),
       ends .next-end .ensures ∙ sym (ap (λ (s : Step). endAfter h m (s .carried .last)) (stepped .step-on .ensures)),
     )
