@@ -8,7 +8,7 @@ use native.Mathlib.Nat.{zero-add}
 use lib.Dec.{ltb}
 use lib.ListN.{length, getD, take, drop, length-drop}
 use lib.Seq.{drop-cons, getD-drop}
-use borrow.Author.Tests.{not-false, ltb-true, le-ltb}
+use borrow.Author.Tests.{ltb-true, le-ltb}
 use Rattle.measures.specs.Bar.{Bar}
 use Rattle.recognisers.specs.declared.call.Verdict.the-variants.{Accepted}
 use Rattle.recognisers.specs.Refusal.{firstTrue}
@@ -22,8 +22,8 @@ use Rattle.terms.specs.Layer.{above, soundCarried, validLayer, stampsTri
 use Rattle.trading_hours.specs.TermRule.{endOf}
 use Rattle.terms.specs.Passing.{endAfter, EndKnown, Ready}
 use Rattle.trading_hours.proofs.EndLaws.{end-rule}
-use Rattle.bar_box.proofs.FeedSteps.{none-true}
-use Rattle.terms.proofs.CallLaws.{stamp-sound, stamp-last, layer-meets, sound-closed}
+use Rattle.terms.proofs.StampLaws.{first-passed, sound-closed}
+use Rattle.terms.proofs.CallLaws.{layer-meets}
 use Rattle.trading_hours.proofs.HourLaws.{term-some}
 
 -- ---- a stamp above the last one
@@ -62,12 +62,9 @@ ready-end h m c ss r = record { some = r .some; valid = r .valid; sound = sound-
 -- the next one is above the last and lies in the hours
 pub next-fits : (h : Hours) (last : LastStamp) (ss : List ℕ) (i : ℕ) → i < length ss → firstTrue (stampsTried h last (drop i ss)) ≡ Accepted
     → (above last (getD ss i 0) ≡ true) × (inHours h (getD ss i 0) ≡ true)
-unfolding stampsTried
 next-fits h last ss i within e =
-    let here = rw (drop-cons ss i 0 within) at e in
-    let ten = none-true _ _ here in
-    let eleven = none-true _ _ (ten .1) in
-    (not-false _ (ten .0), not-false _ (eleven .0))
+    let first = first-passed h last (getD ss i 0) (drop (suc i) ss) (rw (drop-cons ss i 0 within) at e) in
+    (first .0, first .1)
 
 minutes-none : (ss : List ℕ) → minutesOf ss [] ≡ []
 unfolding minutesOf
@@ -85,15 +82,13 @@ minutes-drop (suc k) (s ∷ ss) (b ∷ bars) = minutes-drop k ss bars
 -- after some of them the rest is ready
 pub ready-after : (h : Hours) (m : ℕ) (c : Carried) (ss : List ℕ) (bars : List Bar) (k : ℕ) → length ss ≡ length bars → Ready h m c ss
     → Ready h m (carriedOf h m c (take k (minutesOf ss bars))) (drop k ss)
-unfolding minutesOf carriedOf stampsTried
+unfolding minutesOf carriedOf minuteStep soundCarried
 ready-after h m c ss bars zero each r = r
 ready-after h m c [] bars (suc k) each r = r
 ready-after h m c (s ∷ ss) [] (suc k) each r = absurd (let z : ⊥ = omega arith in z)
 ready-after h m c (s ∷ ss) (b ∷ bars) (suc k) each r =
-    let ten = none-true _ _ (r .rising) in
-    let eleven = none-true _ _ (ten .1) in
-    ready-after h m (minuteStep h m c s b .carried) ss bars k (omega arith)
-    record { some = r .some; valid = r .valid; sound = stamp-sound h m c s b (not-false _ (eleven .0)); rising = rw (stamp-last h m c s b) (eleven .1) }
+    let first = first-passed h (c .last) s ss (r .rising) in
+    ready-after h m (minuteStep h m c s b .carried) ss bars k (omega arith) record { some = r .some; valid = r .valid; sound = first .1; rising = first .2 }
 
 -- the next bar of a run, after some
 pub fill-ready : (h : Hours) (m : ℕ) (c : Carried) (ss : List ℕ) (bars : List Bar) (from k : ℕ) → length ss ≡ length bars → from + k < length ss → Ready h m c (drop from ss)

@@ -7,7 +7,7 @@ use lib.ListN.{length, getD, drop}
 use Rattle.recognisers.specs.Refusal.{firstTrue}
 use Rattle.terms.specs.Layer.{stampsTried}
 use Rattle.terms.specs.Passing.{EndKnown}
-use Rattle.terms.proofs.CallLaws.{stamps-late, stamps-outside, stamps-next, stamps-past}
+use Rattle.terms.proofs.StampLaws.{stamps-late, stamps-outside, stamps-next, stamps-past}
 use Rattle.terms.proofs.PassingLaws.{end-next}
 use Rattle.terms.proofs.verdicts.stamps_verdict.Statement.{statement}
 use Rattle.terms.proofs.verdicts.stamps_verdict.Tie as tie
