@@ -18,7 +18,7 @@ use Rattle.terms.specs.declared.events.OpenBar.{OpenBar}
 use Rattle.terms.specs.declared.events.OpenBar.the-variants.{Nothing, Begun}
 use Rattle.terms.specs.declared.events.Carried.{Carried}
 use Rattle.terms.specs.Events.{Event, Minute, Close, openBars, endedAt, carriedAt, endedOf, carriedOf, lastOf, minutesOf, minuteStep}
-use Rattle.terms.specs.Passing.{someIn}
+use Rattle.terms.specs.Passing.{roomBars, someIn}
 
 pub few-in : (p : OpenBar) → length (openBars p) ≤ 1
 few-in Nothing = omega arith
@@ -126,14 +126,14 @@ pub none-in : (p : OpenBar) → someIn p ≡ false → openBars p ≡ []
 none-in Nothing e = refl
 none-in (Begun b) e = cc
 
--- a loop's turn: a bar is left, and fewer than 32 term bars ended
-pub turn-of : (k n count : ℕ) → (ltb k n && ltb count 32) ≡ true → (k < n) × (count < 32)
-turn-of k n count e = let each = both (ltb k n) (ltb count 32) e in (ltb-true k n (each .0), ltb-true count 32 (each .1))
+-- a loop's turn: a bar is left, and there is room for another term bar
+pub turn-of : (k n count : ℕ) → (ltb k n && ltb count roomBars) ≡ true → (k < n) × (count < roomBars)
+turn-of k n count e = let each = both (ltb k n) (ltb count roomBars) e in (ltb-true k n (each .0), ltb-true count roomBars (each .1))
 
--- a loop that stops where no bar is left or 32 term bars ended has passed some bar, if there was one
-pub passed-some : (k n count : ℕ) → (ltb k n && ltb count 32) ≡ false → count ≤ k → 1 ≤ n → 1 ≤ k
+-- a loop that stops where no bar is left or there is no room has passed some bar, if there was one
+pub passed-some : (k n count : ℕ) → (ltb k n && ltb count roomBars) ≡ false → count ≤ k → 1 ≤ n → 1 ≤ k
 passed-some zero n count e few some =
-    let z : _≡_ {A = Bool} true false = simp (lt-ltb 0 n (omega arith), lt-ltb count 32 (omega arith)) at e in
+    let z : _≡_ {A = Bool} true false = simp (lt-ltb 0 n (omega arith), lt-ltb count roomBars (omega arith)) at e in
     absurd (let w : _≡_ {A = ℕ} 0 1 = cc in let z' : ⊥ = omega arith in z')
 passed-some (suc k) n count e few some = omega arith
 
