@@ -1,15 +1,13 @@
 -- The calls' verdicts: what an accepted run or close meets, and what an accepted call leaves. Assumes nothing.
-use Prim.Native.Nat.{ℕ, _+_, _-_, _/_, _%_, _≤_, _<_}
+use Prim.Native.Nat.{ℕ, _/_}
 use mathlib.Core.Path.{_≡_, refl, _∙_}
 use mathlib.Core.Bool.{Bool, true, false, cond, _&&_}
 use mathlib.Core.List.{List, [], _∷_, _++_}
-use native.Mathlib.Numerals.{add-one}
 use borrow.Author.Tests.{not-false, eqb-true, ltb-false}
 use lib.Dec.{eqb}
-use lib.ListN.{length, getD, drop, drop-of-length-le}
-use lib.Seq.{drop-cons}
+use lib.ListN.{length}
 use Rattle.recognisers.specs.Threshold.{Thresholds}
-use Rattle.recognisers.specs.declared.call.Refusal.the-variants.{BadThreshold, BrokenBars, LateStamp, OutsideHours}
+use Rattle.recognisers.specs.declared.call.Refusal.the-variants.{BadThreshold, BrokenBars}
 use Rattle.recognisers.specs.declared.call.Verdict.{Verdict}
 use Rattle.recognisers.specs.declared.call.Verdict.the-variants.{Accepted, Denied}
 use Rattle.recognisers.specs.Refusal.{Tried, brokenBars, badLayer, firstTrue, nextAfter}
@@ -19,15 +17,12 @@ use Rattle.measures.proofs.PriceLaws.{bars-prices}
 use Rattle.bar_box.proofs.FeedSteps.{none-true, accepts}
 use Rattle.trading_hours.specs.declared.hours.Hours.{Hours}
 use Rattle.terms.specs.declared.events.LastStamp.{LastStamp}
-use Rattle.terms.specs.declared.events.LastStamp.the-variants.{Never, At}
-use Rattle.measures.specs.Bar.{Bar, overlay, pricesOf}
-use Rattle.terms.specs.declared.events.OpenBar.{OpenBar}
-use Rattle.terms.specs.declared.events.OpenBar.the-variants.{Nothing}
+use Rattle.measures.specs.Bar.{overlay, pricesOf}
 use Rattle.terms.specs.declared.events.Carried.{Carried}
 use Rattle.terms.specs.declared.layers.Layer.{Layer}
-use Rattle.trading_hours.specs.Hours.{inHours, validHours, termLength}
-use Rattle.terms.specs.Events.{Event, Close, minuteStep, carriedOf, minutesOf}
-use Rattle.terms.specs.Layer.{above, stampsTried, soundCarried, validLayer, runTried, closeTried, runVerdict, closeVerdict, endedIn, layerWith, taken, takenOf}
+use Rattle.trading_hours.specs.Hours.{validHours, termLength}
+use Rattle.terms.specs.Events.{Event, carriedOf}
+use Rattle.terms.specs.Layer.{stampsTried, soundCarried, validLayer, runTried, closeTried, runVerdict, closeVerdict, endedIn, layerWith, taken, takenOf}
 use Rattle.trading_hours.proofs.HourLaws.{both}
 use Rattle.bar_box.proofs.PartLaws.{fed-box, fed-sheet}
 

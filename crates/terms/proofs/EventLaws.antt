@@ -4,13 +4,11 @@ use mathlib.Core.Path.{_≡_, refl, sym}
 use mathlib.Core.Bool.{Bool, true, false, _&&_}
 use mathlib.Core.List.{List, [], _∷_, _++_, append-assoc, append-nil}
 use native.Mathlib.Omega.{arith}
-use native.Mathlib.Nat.{zero-add}
 use native.Mathlib.Numerals.{add-one}
 use lib.ListN.{length, getD, take, drop, length-append, length-drop}
 use lib.Seq.{take-suc, take-add, getD-drop}
 use lib.Dec.{ltb}
 use borrow.Author.Tests.{lt-ltb, ltb-true}
-use Rattle.terms.specs.declared.events.Step.{Step}
 use Rattle.measures.specs.Bar.{Bar, noBar}
 use Rattle.trading_hours.specs.declared.hours.Hours.{Hours}
 use Rattle.trading_hours.proofs.HourLaws.{both}
@@ -83,44 +81,32 @@ minute-at (s ∷ ss) [] i h e = absurd (let z : ⊥ = omega arith in z)
 minute-at (s ∷ ss) (b ∷ bars) zero h e = refl
 minute-at (s ∷ ss) (b ∷ bars) (suc i) h e = minute-at ss bars i (omega arith) (omega arith)
 
--- one more of the events from one on
-pub next-minute : (ss : List ℕ) (bars : List Bar) (from k : ℕ) → from + k < length ss → length ss ≡ length bars
-    → let es = drop from (minutesOf ss bars) in take (k + 1) es ≡ take k es ++ (Minute (getD ss (from + k) 0) (getD bars (from + k) noBar) ∷ [])
-next-minute ss bars from k h e =
+-- one more of the events from one on, which is the i-th
+pub next-minute : (ss : List ℕ) (bars : List Bar) (from k i : ℕ) → i ≡ from + k → i < length ss → length ss ≡ length bars
+    → let es = drop from (minutesOf ss bars) in take (k + 1) es ≡ take k es ++ (Minute (getD ss i 0) (getD bars i noBar) ∷ [])
+next-minute ss bars from k i at h e =
     let es = minutesOf ss bars in
     let all = length-minutes ss bars e in
     let left : k < length (drop from es) = rw length-drop (omega arith) in
-    rw (add-one k, take-suc (drop from es) k Close left, getD-drop from es k Close, minute-at ss bars (from + k) h e)
+    rw (add-one k, take-suc (drop from es) k Close left, getD-drop from es k Close, ← at, minute-at ss bars i h e)
 
 -- ---- passing one bar more
 
-module _ (h : Hours) (m : ℕ) (c : Carried) (ss : List ℕ) (bars : List Bar) (from k : ℕ) (within : from + k < length ss) (each : length ss ≡ length bars) where
+module _ (h : Hours) (m : ℕ) (c : Carried) (ss : List ℕ) (bars : List Bar) (from k i : ℕ) (at : i ≡ from + k) (within : i < length ss) (each : length ss ≡ length bars) where
   abbrev events : List Event
   events = drop from (minutesOf ss bars)
 
-  abbrev next : Step
-  next = minuteStep h m (carriedOf h m c (take k events)) (getD ss (from + k) 0) (getD bars (from + k) noBar)
+  abbrev next : Event
+  next = Minute (getD ss i 0) (getD bars i noBar)
 
-  pub ended-next : endedOf h m c (take (k + 1) events) ≡ endedOf h m c (take k events) ++ openBars (next .ended)
-  ended-next =
-      let e = Minute (getD ss (from + k) 0) (getD bars (from + k) noBar) in
-      rw (next-minute ss bars from k within each, ended-append h m c (take k events) (e ∷ []), ended-one h m (carriedOf h m c (take k events)) e)
+  abbrev passed : Carried
+  passed = carriedOf h m c (take k events)
 
-  pub carried-next : carriedOf h m c (take (k + 1) events) ≡ next .carried
-  carried-next =
-      let e = Minute (getD ss (from + k) 0) (getD bars (from + k) noBar) in
-      rw (next-minute ss bars from k within each, carried-append h m c (take k events) (e ∷ []), carried-one h m (carriedOf h m c (take k events)) e)
+  pub ended-next : endedOf h m c (take (k + 1) events) ≡ endedOf h m c (take k events) ++ endedAt h m passed next
+  ended-next = rw (next-minute ss bars from k i at within each, ended-append h m c (take k events) (next ∷ []), ended-one h m passed next)
 
--- from the first on
-module _ (h : Hours) (m : ℕ) (c : Carried) (ss : List ℕ) (bars : List Bar) (k : ℕ) (within : k < length ss) (each : length ss ≡ length bars) where
-  abbrev front : Step
-  front = minuteStep h m (carriedOf h m c (take k (minutesOf ss bars))) (getD ss k 0) (getD bars k noBar)
-
-  pub ended-front : endedOf h m c (take (k + 1) (minutesOf ss bars)) ≡ endedOf h m c (take k (minutesOf ss bars)) ++ openBars (front .ended)
-  ended-front = rw (zero-add k) at (ended-next h m c ss bars 0 k (rw (zero-add k) within) each)
-
-  pub carried-front : carriedOf h m c (take (k + 1) (minutesOf ss bars)) ≡ front .carried
-  carried-front = rw (zero-add k) at (carried-next h m c ss bars 0 k (rw (zero-add k) within) each)
+  pub carried-next : carriedOf h m c (take (k + 1) events) ≡ carriedAt h m passed next
+  carried-next = rw (next-minute ss bars from k i at within each, carried-append h m c (take k events) (next ∷ []), carried-one h m passed next)
 
 pub none-in : (p : OpenBar) → someIn p ≡ false → openBars p ≡ []
 none-in Nothing e = refl

@@ -6,6 +6,6 @@ pub mod FeedLaws
 pub mod CallLaws
 pub mod PartLaws
 pub mod PassingLaws
-pub mod TakeLaws
 pub mod CallSteps
+pub mod TakeLaws
 pub mod TermCalls

@@ -4,7 +4,6 @@ use mathlib.Core.Path.{_≡_, refl, sym, _∙_}
 use mathlib.Core.Bool.{true}
 use mathlib.Core.List.{List, [], _∷_}
 use native.Mathlib.Omega.{arith}
-use native.Mathlib.Nat.{zero-add}
 use lib.Dec.{ltb}
 use lib.ListN.{length, getD, take, drop, length-drop}
 use lib.Seq.{drop-cons, getD-drop}
@@ -90,23 +89,17 @@ ready-after h m c (s ∷ ss) (b ∷ bars) (suc k) each r =
     let first = first-passed h (c .last) s ss (r .rising) in
     ready-after h m (minuteStep h m c s b .carried) ss bars k (omega arith) record { some = r .some; valid = r .valid; sound = first .1; rising = first .2 }
 
--- the next bar of a run, after some
-pub fill-ready : (h : Hours) (m : ℕ) (c : Carried) (ss : List ℕ) (bars : List Bar) (from k : ℕ) → length ss ≡ length bars → from + k < length ss → Ready h m c (drop from ss)
+-- the next bar of a run, after some from one on; it is the i-th
+pub fill-ready : (h : Hours) (m : ℕ) (c : Carried) (ss : List ℕ) (bars : List Bar) (from k i : ℕ) → i ≡ from + k → length ss ≡ length bars → i < length ss → Ready h m c (drop from ss)
     → let last = carriedOf h m c (take k (drop from (minutesOf ss bars))) .last in
-    (EndKnown h m last (endAfter h m last)) × ((above last (getD ss (from + k) 0) ≡ true) × (inHours h (getD ss (from + k) 0) ≡ true))
-fill-ready h m c ss bars from k each within ready =
+    (EndKnown h m last (endAfter h m last)) × ((above last (getD ss i 0) ≡ true) × (inHours h (getD ss i 0) ≡ true))
+fill-ready h m c ss bars from k i at each within ready =
     let left : length (drop from ss) ≡ length (drop from bars) = rw (length-drop from ss, length-drop from bars) (omega arith) in
     let near : k < length (drop from ss) = rw (length-drop from ss) (omega arith) in
     let r = ready-after h m c (drop from ss) (drop from bars) k left ready in
     let d = carriedOf h m c (take k (minutesOf (drop from ss) (drop from bars))) in
     let fit = rw (getD-drop from ss k 0) at (next-fits h (d .last) (drop from ss) k near (r .rising)) in
-    rw (minutes-drop from ss bars) (ready-end h m d (drop k (drop from ss)) r, fit)
-
--- from the first on
-pub front-ready : (h : Hours) (m : ℕ) (c : Carried) (ss : List ℕ) (bars : List Bar) (k : ℕ) → length ss ≡ length bars → k < length ss → Ready h m c ss
-    → let last = carriedOf h m c (take k (minutesOf ss bars)) .last in
-    (EndKnown h m last (endAfter h m last)) × ((above last (getD ss k 0) ≡ true) × (inHours h (getD ss k 0) ≡ true))
-front-ready h m c ss bars k each within ready = rw (zero-add k) at (fill-ready h m c ss bars 0 k each (rw (zero-add k) within) ready)
+    rw (minutes-drop from ss bars, at) (ready-end h m d (drop k (drop from ss)) r, fit)
 
 -- a layer that keeps the rules
 pub layer-end : (h : Hours) (m : ℕ) (c : Carried) → validLayer h m c ≡ true → EndKnown h m (c .last) (endAfter h m (c .last))

@@ -18,7 +18,7 @@ use Rattle.bar_box.specs.Box.{takenIn, feedVerdict, madeOf as boxMade}
 use Rattle.recognisers.specs.Refusal.{leaves}
 use Rattle.measures.proofs.Overlay.{overlay-none}
 use Rattle.bar_box.proofs.BoxLaws.{taken-none}
-use Rattle.bar_box.proofs.FeedSteps.{none-true, fits, accepts}
+use Rattle.bar_box.proofs.FeedSteps.{none-true, fits}
 use Rattle.bar_box.proofs.PartLaws.{rowsFrom, made-valid}
 use Rattle.trading_hours.specs.declared.hours.Hours.{Hours}
 use Rattle.trading_hours.proofs.HourLaws.{term-some}
@@ -27,8 +27,10 @@ use Rattle.terms.specs.declared.layers.Layer.{Layer}
 use Rattle.terms.specs.Events.{Event, endedOf, carriedOf, minutesOf, Close, nothingYet, carriedWith, openBars}
 use Rattle.terms.specs.Layer.{layerWith, runVerdictOf, endedIn, taken, takenOf, takenSheet, ranOf, ranSheet, wholeDay, makeVerdict, madeBy, madeOf, closeVerdictOf, closedOf, closedSheet}
 use Rattle.terms.specs.Passing.{Ready, progressOf}
-use Rattle.terms.proofs.EventLaws.{carried-append, ended-append, ended-few, length-minutes, few-in, ended-one}
-use Rattle.terms.proofs.FeedLaws.{bars-accepted, few-accepted, some-room}
+use Rattle.terms.proofs.EventLaws.{carried-append, ended-append, length-minutes, few-in, ended-one}
+use Rattle.terms.proofs.FeedLaws.{fewer-accepted, some-room}
+use Rattle.terms.specs.History.{Run, Shut}
+use Rattle.terms.proofs.CallSteps.{call-feed}
 use Rattle.terms.proofs.CallLaws.{run-meets, taken-is, sheet-is, close-meets}
 use Rattle.terms.proofs.PassingLaws.{minutes-drop, ready-after}
 use Rattle.recognisers.specs.Threshold.{Thresholds, standardSet}
@@ -71,12 +73,7 @@ module _ (l : Layer) (ps : List Float) (ss sheet : List ℕ) where
 
     -- the box's own feed is not refused
     run-feed : feedVerdict (l .inner .thresholds) (l .inner .count) (length (pricesOf (endedIn l events))) (length sheet) ≡ Accepted
-    run-feed =
-        let met = run-meets _ _ _ _ _ _ _ _ e in
-        let each = met .one-each in
-        let total = length-minutes ss (barsOf ps) one-each in
-        let few = ended-few h m (l .carried) events in
-        bars-accepted _ _ _ _ (met .feed) (endedIn l events) (omega arith)
+    run-feed = call-feed _ _ _ _ _ (Run ps ss sheet) e
 
     -- what it leaves
     ran-is : taken Accepted (length (endedIn l events)) (layerWith h m (carriedOf h m (l .carried) events) (takenIn (l .inner) (endedIn l events))) ≡ ranOf l ps ss (length sheet)
@@ -114,14 +111,15 @@ module _ (l : Layer) (ps : List Float) (ss sheet : List ℕ) where
 
       pub later-fits : Ready h m mid (drop k ss) × (length (drop k ss) ≡ length (barsOf (drop (4 * k) ps))) × (feedVerdict (l .inner .thresholds) (l .inner .count) (length (drop (4 * k) ps)) (length sheet) ≡ Accepted)
       later-fits =
-          let f = fits _ _ _ _ (run-meets _ _ _ _ _ _ _ _ e .feed) in
+          let feed = run-meets _ _ _ _ _ _ _ _ e .feed in
+          let f = fits _ _ _ _ feed in
           let left = length-drop (4 * k) ps in
           let each = one-each in
           let bars = length-bars ps in
           let at : 4 * k ≡ k * 4 = omega arith in (
             ready-after h m (l .carried) ss (barsOf ps) k one-each run-ready,
             rw (at, bars-drop k ps, length-drop, length-drop, one-each),
-            accepts _ _ _ _ (record { valid = f .valid; whole = omega (arith, f .whole); few = omega (arith, f .few); room = omega (arith, f .room) }),
+            fewer-accepted _ _ _ _ feed _ _ _ (omega (arith, f .whole)) (omega arith) (omega (arith, f .room)),
           )
 
       pub later-ran : let p = progressOf h m mid (l .inner) later in taken Accepted (p .rows) (layerWith h m (p .carried) (p .inner)) ≡ ranOf l ps ss (length sheet)
@@ -168,7 +166,7 @@ module _ (l : Layer) (sheet : List ℕ) where
   close-fits Accepted e =
       let met = close-meets _ _ _ _ _ _ e in
       let few = few-in (l .carried .pending) in
-      (λ some. few-accepted _ _ _ _ (met .feed) (length (closing l Accepted)) (omega arith), omega (arith, some-room _ _ _ _ (met .feed) 0 (length (closing l Accepted)) (omega arith)))
+      (λ some. fewer-accepted _ _ _ _ (met .feed) _ _ _ (omega arith) (omega arith) (omega arith), omega (arith, some-room _ _ _ _ (met .feed) 0 (length (closing l Accepted)) (omega arith)))
   close-fits (Denied r) e = (λ some. absurd (let z : ⊥ = omega arith in z), omega arith)
 
   pub closed-is : length (l .inner .bars) ≡ places → (v : Verdict) → closeVerdictOf l (length sheet) ≡ v
@@ -178,8 +176,6 @@ module _ (l : Layer) (sheet : List ℕ) where
   closed-is all Accepted e =
       let es = Close ∷ [] in
       let ended : endedIn l es ≡ closing l Accepted = ended-one (l .hours) (l .minutes) (l .carried) Close in
-      let met = close-meets _ _ _ _ _ _ e in
-      let few = few-in (l .carried .pending) in
-      let feed = bars-accepted _ _ _ _ (met .feed) (endedIn l es) (rw ended (omega arith)) in
+      let feed = call-feed _ _ _ _ _ (Shut sheet) e in
       (rw (← ended) (taken-is l es sheet feed ∙ ap (λ (v : Verdict). takenOf v l es (length sheet)) (sym e)), rw (← ended) (sym (sheet-is l es sheet feed) ∙ ap (λ (v : Verdict). takenSheet v l es sheet) (sym e)))
   closed-is all (Denied r) e = (rw (taken-none (l .inner) all, e), rw e (overlay-none sheet 0))

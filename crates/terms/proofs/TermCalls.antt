@@ -6,14 +6,12 @@ use mathlib.Core.List.{List, [], _∷_, _++_, flatten, append-nil}
 use native.Mathlib.Omega.{arith}
 use native.Mathlib.Nat.{zero-add}
 use lib.ListN.{length, length-append}
-use Rattle.measures.specs.Bar.{Bar, pricesOf}
-use Rattle.recognisers.specs.Threshold.{Thresholds}
+use Rattle.measures.specs.Bar.{Bar, pricesOf, barsOf}
+use Rattle.recognisers.specs.Threshold.{Thresholds, standardSet, validOf}
 use Rattle.recognisers.specs.declared.call.Verdict.{Verdict}
 use Rattle.recognisers.specs.declared.call.Verdict.the-variants.{Accepted, Denied}
 use Rattle.recognisers.specs.Number.{rowBytes}
 use Rattle.bar_box.specs.Sheet.{rowsOf}
-use Rattle.measures.specs.Bar.{barsOf}
-use Rattle.recognisers.specs.Threshold.{standardSet, validOf}
 use borrow.Author.Tests.{not-false}
 use Rattle.bar_box.specs.Box.{fedOf}
 use Rattle.recognisers.specs.Refusal.{leaves}

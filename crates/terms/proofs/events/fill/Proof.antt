@@ -56,7 +56,7 @@ fit c =
     let start = c .before .before .before .before .before .before in
     let args = start .args in
     let inv = c .before .loop .inv in
-    rw (inv .6, inv .5) (fill-ready (args .h) (args .m) (args .c) (args .stamps .now) (barsOf (args .prices .now)) (args .from) (c .before .loop .k) (start .pre .2) (turn c .0) (start .pre .0))
+    rw (inv .6, inv .5) (fill-ready (args .h) (args .m) (args .c) (args .stamps .now) (barsOf (args .prices .now)) (args .from) (c .before .loop .k) _ refl (start .pre .2) (turn c .0) (start .pre .0))
 
 add-stamp : tie.Need-add-stamp Inv-loop μ-loop
 add-stamp c = let t = turn c in search needs
@@ -129,7 +129,7 @@ loop-again c =
     let made : stepped .step-on .result ≡ minuteStep h m (carriedOf h m (args .c) (take k es)) (getD ss (args .from + k) 0) (getD bars (args .from + k) noBar) =
     stepped .step-on .ensures ∙ rw (read .bar-or-none .ensures, inv .5) in
     let new = openBars (stepped .step-on .result .ended) in
-    let more-ended : endedOf h m (args .c) (take (k + 1) es) ≡ old ++ new = ended-next h m (args .c) ss bars (args .from) k within (pre .2) ∙ rw made in
+    let more-ended : endedOf h m (args .c) (take (k + 1) es) ≡ old ++ new = ended-next h m (args .c) ss bars (args .from) k _ refl within (pre .2) ∙ rw made in
     let few = few-in (stepped .step-on .result .ended) in
     let put = call .put-ended .ensures in
     let old-prices = length-prices old in
@@ -139,7 +139,7 @@ loop-again c =
       call .put-ended .kept .1 .0 ∙ inv .2,
       rw (more-ended, length-append, put .0) (omega arith),
       put .1 ∙ rw (inv .4, more-ended, prices-append old new) (overlay-more (args .run .now) 0 (pricesOf old) (pricesOf new) (4 * count) (omega arith) (omega arith)),
-      ap (λ (s : Step). s .carried) made ∙ sym (carried-next h m (args .c) ss bars (args .from) k within (pre .2)),
+      ap (λ (s : Step). s .carried) made ∙ sym (carried-next h m (args .c) ss bars (args .from) k _ refl within (pre .2)),
       ends .next-end .ensures ∙ sym (ap (λ (s : Step). endAfter h m (s .carried .last)) (stepped .step-on .ensures)),
     )
 

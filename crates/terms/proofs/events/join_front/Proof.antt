@@ -2,6 +2,7 @@
 use borrow.Author.Needs.{needs}
 use mathlib.Core.Path.{_≡_, refl, ap, sym, _∙_}
 use native.Mathlib.Omega.{arith}
+use native.Mathlib.Nat.{zero-add}
 use Prim.Native.Nat.{_-_, _≤_, _<_}
 use mathlib.Core.List.{[]}
 use mathlib.Core.Bool.{true}
@@ -12,8 +13,8 @@ use Rattle.terms.specs.declared.events.Step.{Step}
 use Rattle.terms.specs.Events.{openBars, minuteStep, endedOf, carriedOf, minutesOf}
 use Rattle.terms.specs.Layer.{above}
 use Rattle.terms.specs.Passing.{endAfter, EndKnown}
-use Rattle.terms.proofs.EventLaws.{ended-front, carried-front, none-in}
-use Rattle.terms.proofs.PassingLaws.{front-ready}
+use Rattle.terms.proofs.EventLaws.{ended-next, carried-next, none-in}
+use Rattle.terms.proofs.PassingLaws.{fill-ready}
 use Rattle.terms.proofs.events.join_front.Statement.{statement}
 use Rattle.terms.proofs.events.join_front.Tie as tie
 
@@ -50,7 +51,7 @@ fit c =
     let inv = c .before .loop .inv in
     let more = c .loop-test .taken in
     let ready = start .pre .1 (omega arith) in
-    rw (inv .3, inv .2) (front-ready (args .h) (args .m) (args .c) (args .stamps .now) (barsOf (args .prices .now)) (c .before .loop .k) (ready .1) (omega (arith, start .pre .0)) (ready .0))
+    rw (inv .3, inv .2) (fill-ready (args .h) (args .m) (args .c) (args .stamps .now) (barsOf (args .prices .now)) 0 (c .before .loop .k) _ (sym (zero-add _)) (ready .1) (omega (arith, start .pre .0)) (ready .0))
 
 step-on-requires : tie.Need-step-on-requires Inv-loop μ-loop
 step-on-requires c κs = fit (c .before .before)
@@ -98,8 +99,8 @@ loop-again c =
     stepped .step-on .ensures ∙ rw (read .bar-or-none .ensures, inv .2) in
     let quiet = none-in (stepped .step-on .result .ended) (sym (told .has-ended .ensures) ∙ ends .before .if1 .left) in (
       search needs,
-      ended-front h m (args .c) ss bars k within (ready .1) ∙ rw (inv .1) (ap (λ (s : Step). openBars (s .ended)) (sym made) ∙ quiet),
-      ap (λ (s : Step). s .carried) made ∙ sym (carried-front h m (args .c) ss bars k within (ready .1)),
+      ended-next h m (args .c) ss bars 0 k k (sym (zero-add k)) within (ready .1) ∙ rw (inv .1) (ap (λ (s : Step). openBars (s .ended)) (sym made) ∙ quiet),
+      ap (λ (s : Step). s .carried) made ∙ sym (carried-next h m (args .c) ss bars 0 k k (sym (zero-add k)) within (ready .1)),
       ends .next-end .ensures ∙ sym (ap (λ (s : Step). endAfter h m (s .carried .last)) (stepped .step-on .ensures)),
     )
 
