@@ -7,6 +7,7 @@ use measures::least;
 use recognisers::Thresholds;
 use recognisers::call::Verdict;
 use recognisers::call::refusal_number;
+use recognisers::counts::ROW_BYTES;
 use recognisers::export::of_bits;
 use terms::Carried;
 use terms::LastStamp;
@@ -145,7 +146,7 @@ fn run(l: Layer, line: Line) -> Layer {
         4.0,
     ];
     let all = stamps(line);
-    let mut sheet = [7u8; 288];
+    let mut sheet = [7u8; 8 * ROW_BYTES];
     run_with(l, line, &prices, &all, &mut sheet)
 }
 
@@ -156,7 +157,7 @@ fn close_with(l: Layer, line: Line, sheet: &mut [u8]) -> Layer {
 }
 
 fn close(l: Layer, line: Line) -> Layer {
-    let mut sheet = [7u8; 36];
+    let mut sheet = [7u8; ROW_BYTES];
     close_with(l, line, &mut sheet)
 }
 

@@ -15,7 +15,7 @@ use Rattle.recognisers.specs.Refusal.{refusalNumber, verdictNumber}
 use Rattle.measures.specs.Bar.{overlay}
 use Rattle.terms.specs.declared.layers.Layer.{Layer}
 use Rattle.terms.specs.declared.layers.Taken.{Taken}
-use Rattle.terms.specs.History.{Call, Run, Shut, sheetIn as lentSheet, called, sheetAfter}
+use Rattle.terms.specs.History.{Call, Run, Shut, lentSheet, called, sheetAfter}
 use Rattle.terms.proofs.CallSteps.{rows-fit}
 use Rattle.term_feeds.specs.Calls.{callOf, answerOf, answersOf, sheetOf, madeIn, sheetIn, answersIn}
 use Rattle.term_feeds.proofs.ListLaws.{left-is, front-more, behind-more}

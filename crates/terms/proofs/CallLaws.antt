@@ -1,15 +1,13 @@
--- The calls' verdicts: what an accepted run or close meets, the stamps one by one, and what an accepted call leaves. Assumes nothing.
-use Prim.Native.Nat.{ℕ, _+_, _-_, _/_, _%_, _≤_, _<_}
+-- The calls' verdicts: what an accepted run or close meets, and what an accepted call leaves. Assumes nothing.
+use Prim.Native.Nat.{ℕ, _/_}
 use mathlib.Core.Path.{_≡_, refl, _∙_}
 use mathlib.Core.Bool.{Bool, true, false, cond, _&&_}
 use mathlib.Core.List.{List, [], _∷_, _++_}
-use native.Mathlib.Numerals.{add-one}
 use borrow.Author.Tests.{not-false, eqb-true, ltb-false}
 use lib.Dec.{eqb}
-use lib.ListN.{length, getD, drop, drop-of-length-le}
-use lib.Seq.{drop-cons}
+use lib.ListN.{length}
 use Rattle.recognisers.specs.Threshold.{Thresholds}
-use Rattle.recognisers.specs.declared.call.Refusal.the-variants.{BadThreshold, BrokenBars, LateStamp, OutsideHours}
+use Rattle.recognisers.specs.declared.call.Refusal.the-variants.{BadThreshold, BrokenBars}
 use Rattle.recognisers.specs.declared.call.Verdict.{Verdict}
 use Rattle.recognisers.specs.declared.call.Verdict.the-variants.{Accepted, Denied}
 use Rattle.recognisers.specs.Refusal.{Tried, brokenBars, badLayer, firstTrue, nextAfter}
@@ -19,37 +17,14 @@ use Rattle.measures.proofs.PriceLaws.{bars-prices}
 use Rattle.bar_box.proofs.FeedSteps.{none-true, accepts}
 use Rattle.trading_hours.specs.declared.hours.Hours.{Hours}
 use Rattle.terms.specs.declared.events.LastStamp.{LastStamp}
-use Rattle.terms.specs.declared.events.LastStamp.the-variants.{Never, At}
-use Rattle.measures.specs.Bar.{Bar, overlay, pricesOf}
-use Rattle.terms.specs.declared.events.OpenBar.{OpenBar}
-use Rattle.terms.specs.declared.events.OpenBar.the-variants.{Nothing}
+use Rattle.measures.specs.Bar.{overlay, pricesOf}
 use Rattle.terms.specs.declared.events.Carried.{Carried}
 use Rattle.terms.specs.declared.layers.Layer.{Layer}
-use Rattle.trading_hours.specs.Hours.{inHours, validHours, termLength}
-use Rattle.terms.specs.Events.{Event, Close, stepOf, carriedOf, minutesOf}
-use Rattle.terms.specs.Layer.{above, stampsTried, soundCarried, validLayer, runTried, closeTried, runVerdict, closeVerdict, endedIn, layerWith, taken, takenOf}
+use Rattle.trading_hours.specs.Hours.{validHours, termLength}
+use Rattle.terms.specs.Events.{Event, carriedOf}
+use Rattle.terms.specs.Layer.{stampsTried, soundCarried, validLayer, runTried, closeTried, runVerdict, closeVerdict, endedIn, layerWith, taken, takenOf}
 use Rattle.trading_hours.proofs.HourLaws.{both}
 use Rattle.bar_box.proofs.PartLaws.{fed-box, fed-sheet}
-
--- ---- the stamps, one by one
-
-module _ (h : Hours) (last : LastStamp) (ss : List ℕ) (i : ℕ) (within : i < length ss) where
-  pub stamps-late : above last (getD ss i 0) ≡ false → firstTrue (stampsTried h last (drop i ss)) ≡ Denied LateStamp
-  unfolding firstTrue stampsTried
-  stamps-late e = rw (drop-cons ss i 0 within) (simp e)
-
-  pub stamps-outside : above last (getD ss i 0) ≡ true → inHours h (getD ss i 0) ≡ false → firstTrue (stampsTried h last (drop i ss)) ≡ Denied OutsideHours
-  unfolding firstTrue stampsTried
-  stamps-outside e f = rw (drop-cons ss i 0 within) (simp (e, f))
-
-  pub stamps-next : above last (getD ss i 0) ≡ true → inHours h (getD ss i 0) ≡ true
-      → firstTrue (stampsTried h last (drop i ss)) ≡ firstTrue (stampsTried h (At (getD ss i 0)) (drop (i + 1) ss))
-  unfolding firstTrue stampsTried
-  stamps-next e f = rw (add-one i, drop-cons ss i 0 within) (simp (e, f))
-
-pub stamps-past : (h : Hours) (last : LastStamp) (ss : List ℕ) (i : ℕ) → length ss ≤ i → firstTrue (stampsTried h last (drop i ss)) ≡ Accepted
-unfolding firstTrue stampsTried
-stamps-past h last ss i past = rw (drop-of-length-le ss past)
 
 -- ---- the tests of a run: those that are checked as a feed's, and then those of the stamps
 
@@ -151,34 +126,3 @@ module _ (l : Layer) (es : List Event) (sheet : List ℕ) (e : feedVerdict (l .i
   pub taken-is : taken Accepted (length (endedIn l es)) (layerWith (l .hours) (l .minutes) (carriedOf (l .hours) (l .minutes) (l .carried) es) (takenIn (l .inner) (endedIn l es)))
       ≡ takenOf Accepted l es (length sheet)
   taken-is = rw box-is
-
--- ---- what an accepted call carries on keeps the rules
-
--- after one bar
-pub stamp-sound : (h : Hours) (m : ℕ) (c : Carried) (s : ℕ) (b : Bar) → inHours h s ≡ true → let d = stepOf h m c s b .carried in soundCarried h (d .last) (d .pending) ≡ true
-unfolding stepOf soundCarried
-stamp-sound h m c s b e = e
-
-pub stamp-last : (h : Hours) (m : ℕ) (c : Carried) (s : ℕ) (b : Bar) → stepOf h m c s b .carried .last ≡ At s
-unfolding stepOf
-stamp-last h m c s b = refl
-
-pub stamps-sound : (h : Hours) (m : ℕ) (c : Carried) (ss : List ℕ) (bars : List Bar) → firstTrue (stampsTried h (c .last) ss) ≡ Accepted
-    → soundCarried h (c .last) (c .pending) ≡ true → let d = carriedOf h m c (minutesOf ss bars) in soundCarried h (d .last) (d .pending) ≡ true
-unfolding minutesOf carriedOf stampsTried
-stamps-sound h m c [] bars e k = k
-stamps-sound h m c (s ∷ ss) [] e k = k
-stamps-sound h m c (s ∷ ss) (b ∷ bars) e k =
-    let ten = none-true _ _ e in
-    let eleven = none-true _ _ (ten .1) in
-    stamps-sound h m (stepOf h m c s b .carried) ss bars (rw (stamp-last h m c s b) (eleven .1)) (stamp-sound h m c s b (not-false _ (eleven .0)))
-
--- with nothing open
-pub sound-closed : (h : Hours) (last : LastStamp) (p : OpenBar) → soundCarried h last p ≡ true → soundCarried h last Nothing ≡ true
-unfolding soundCarried
-sound-closed h Never p k = refl
-sound-closed h (At s) p k = k
-
-pub close-sound : (h : Hours) (m : ℕ) (c : Carried) → soundCarried h (c .last) (c .pending) ≡ true → let d = carriedOf h m c (Close ∷ []) in soundCarried h (d .last) (d .pending) ≡ true
-unfolding carriedOf
-close-sound h m c k = sound-closed h (c .last) (c .pending) k

@@ -1,13 +1,12 @@
 -- One call to the layer that events left, against the same call to the plain list of events: its verdict, the layer after it and the rows that
 -- it gives. Assumes nothing.
-use Prim.Native.Nat.{ℕ, _+_, _*_, _≤_}
+use Prim.Native.Nat.{ℕ, _+_, _*_, _≤_, _<_}
 use mathlib.Core.Path.{_≡_, refl, ap, sym, _∙_}
 use mathlib.Core.List.{List, [], _∷_, _++_}
 use native.Mathlib.Omega.{arith}
-use lib.ListN.{length, take, drop}
+use lib.ListN.{length, getD, take, drop}
 use lib.Seq.{take-at}
-use Rattle.measures.specs.Bar.{Bar, pricesOf}
-use Rattle.measures.specs.Bar.{barsOf}
+use Rattle.measures.specs.Bar.{Bar, pricesOf, barsOf}
 use Rattle.measures.proofs.RunLaws.{length-bars}
 use Rattle.recognisers.specs.Threshold.{Thresholds}
 use Rattle.recognisers.specs.declared.call.Verdict.{Verdict}
@@ -15,7 +14,7 @@ use Rattle.recognisers.specs.declared.call.Verdict.the-variants.{Accepted, Deni
 use Rattle.recognisers.specs.Number.{places, rowBytes, mostBars}
 use Rattle.bar_box.specs.Sheet.{rowsOf}
 use Rattle.bar_box.specs.Box.{takenIn, feedVerdict, fedOf}
-use Rattle.recognisers.specs.Refusal.{leaves}
+use Rattle.recognisers.specs.Refusal.{firstTrue, leaves}
 use Rattle.bar_box.specs.History.{oneFeed, fed, NoBars}
 use Rattle.bar_box.proofs.SheetLaws.{length-rows, rows-newest}
 use Rattle.bar_box.proofs.BoxLaws.{taken-append}
@@ -23,35 +22,40 @@ use Rattle.measures.proofs.PriceLaws.{length-prices}
 use Rattle.bar_box.proofs.FeedSteps.{fits, count-after, kept-after}
 use Rattle.trading_hours.specs.declared.hours.Hours.{Hours}
 use Rattle.terms.specs.declared.events.Carried.{Carried}
+use Rattle.terms.specs.declared.events.LastStamp.the-variants.{Never}
 use Rattle.terms.specs.declared.layers.Layer.{Layer}
 use Rattle.terms.specs.declared.layers.Taken.{Taken}
-use Rattle.terms.specs.Events.{Event, Close, nothingYet, endedOf, carriedOf, minutesOf}
-use Rattle.terms.specs.Layer.{soundCarried, validLayer, layerWith, endedIn, afterEvents, takenOf, takenSheet, ranOf, ranSheet, closedOf, closedSheet}
-use Rattle.terms.specs.History.{Call, Run, Shut, sheetIn, eventsIn, verdictBy, verdictOn, appended, called, sheetAfter, rowsOfCall}
+use Rattle.terms.specs.Events.{Event, Close, nothingYet, endedOf, carriedOf, stampsIn, minutesOf}
+use Rattle.terms.specs.Layer.{soundCarried, validLayer, stampsTried, layerWith, endedIn, afterEvents, takenOf, takenSheet, ranOf, ranSheet, closedOf, closedSheet}
+use Rattle.terms.specs.History.{Call, Run, Shut, lentSheet, eventsIn, verdictBy, verdictOn, appended, called, sheetAfter, rowsOfCall, Rising}
 use mathlib.Core.Bool.{true, _&&_, and-true}
-use Rattle.trading_hours.specs.Hours.{validHours, termLength}
+use Rattle.trading_hours.specs.Hours.{validHours, inHours, termLength}
+use Rattle.trading_hours.specs.TermRule.{TermRule}
+use Rattle.trading_hours.proofs.HourLaws.{term-some}
+use Rattle.trading_hours.proofs.TermLaws.{term-rule}
 use Rattle.terms.proofs.EventLaws.{carried-last, carried-append, ended-append, ended-few, length-minutes}
 use Rattle.terms.proofs.FeedLaws.{bars-accepted}
-use Rattle.terms.proofs.CallLaws.{run-meets, close-meets, stamps-sound, close-sound, box-is, sheet-is}
+use Rattle.terms.proofs.StampLaws.{stamps-at, stamps-rise, stamps-append, events-sound, minutes-stamps}
+use Rattle.terms.proofs.CallLaws.{LayerMeets, run-meets, close-meets, box-is, sheet-is}
 
 -- ---- a call of either kind
 
 abbrev verdictAt : Layer → Call → Verdict
 verdictAt l x = verdictBy (l .inner .thresholds) (validLayer (l .hours) (l .minutes) (l .carried)) (l .hours) (l .carried .last) (l .inner .count) x
 
-called-is : (l : Layer) (x : Call) → called l x ≡ takenOf (verdictAt l x) l (eventsIn x) (length (sheetIn x))
+called-is : (l : Layer) (x : Call) → called l x ≡ takenOf (verdictAt l x) l (eventsIn x) (length (lentSheet x))
 unfolding ranOf closedOf
 called-is l (Run prices stamps sheet) = refl
 called-is l (Shut sheet) = refl
 
-sheet-after-is : (l : Layer) (x : Call) → sheetAfter l x ≡ takenSheet (verdictAt l x) l (eventsIn x) (sheetIn x)
+sheet-after-is : (l : Layer) (x : Call) → sheetAfter l x ≡ takenSheet (verdictAt l x) l (eventsIn x) (lentSheet x)
 unfolding ranSheet closedSheet
 sheet-after-is l (Run prices stamps sheet) = refl
 sheet-after-is l (Shut sheet) = refl
 
 -- the box's own feed of the term bars that end is not refused where the call isn't
 pub call-feed : (t : Thresholds) (h : Hours) (m : ℕ) (c : Carried) (n : ℕ) (x : Call) → verdictBy t (validLayer h m c) h (c .last) n x ≡ Accepted
-    → feedVerdict t n (length (pricesOf (endedOf h m c (eventsIn x)))) (length (sheetIn x)) ≡ Accepted
+    → feedVerdict t n (length (pricesOf (endedOf h m c (eventsIn x)))) (length (lentSheet x)) ≡ Accepted
 call-feed t h m c n (Run prices stamps sheet) e =
     let met = run-meets t h m c n (length prices) stamps (length sheet) e in
     let each : length stamps ≡ length (barsOf prices) = met .one-each ∙ sym (length-bars prices) in
@@ -65,26 +69,29 @@ call-feed t h m c n (Shut sheet) e =
     let few = ended-few h m c (Close ∷ []) in
     bars-accepted t n 4 (length sheet) (met .feed) (endedOf h m c (Close ∷ [])) (omega arith)
 
-pub box-accepts : (l : Layer) (x : Call) → called l x .verdict ≡ Accepted → fed (l .inner) (oneFeed (endedIn l (eventsIn x)) (sheetIn x)) .verdict ≡ Accepted
+pub box-accepts : (l : Layer) (x : Call) → called l x .verdict ≡ Accepted → fed (l .inner) (oneFeed (endedIn l (eventsIn x)) (lentSheet x)) .verdict ≡ Accepted
 unfolding fedOf
 box-accepts l x e = call-feed _ _ _ _ _ x (sym (ap (λ (o : Taken). o .verdict) (called-is l x)) ∙ e)
 
 -- the rows that a call fills are no more than a box may count, and its sheet has room for them
-pub rows-fit : (l : Layer) (x : Call) → (called l x .rows ≤ mostBars) × (rowBytes * called l x .rows ≤ length (sheetIn x))
+pub rows-fit : (l : Layer) (x : Call) → (called l x .rows ≤ mostBars) × (rowBytes * called l x .rows ≤ length (lentSheet x))
 rows-fit l x = rw (called-is l x) (go (verdictAt l x) refl)
   where
-    go : (v : Verdict) → verdictAt l x ≡ v → (leaves v 0 (length (endedIn l (eventsIn x))) ≤ mostBars) × (rowBytes * leaves v 0 (length (endedIn l (eventsIn x))) ≤ length (sheetIn x))
+    go : (v : Verdict) → verdictAt l x ≡ v → (leaves v 0 (length (endedIn l (eventsIn x))) ≤ mostBars) × (rowBytes * leaves v 0 (length (endedIn l (eventsIn x))) ≤ length (lentSheet x))
     go Accepted e =
         let f = fits _ _ _ _ (call-feed _ _ _ _ _ x e) in
         let four = length-prices (endedIn l (eventsIn x)) in
         (omega (arith, f .few), omega (arith, f .room))
     go (Denied r) e = (omega arith, omega arith)
 
--- an accepted call carries on what keeps the rules
-call-sound : (t : Thresholds) (h : Hours) (m : ℕ) (c : Carried) (n : ℕ) (x : Call) → verdictBy t (validLayer h m c) h (c .last) n x ≡ Accepted
-    → soundCarried h (c .last) (c .pending) ≡ true → let d = carriedOf h m c (eventsIn x) in soundCarried h (d .last) (d .pending) ≡ true
-call-sound t h m c n (Run prices stamps sheet) e s = stamps-sound h m c stamps (barsOf prices) (run-meets t h m c n (length prices) stamps (length sheet) e .rising) s
-call-sound t h m c n (Shut sheet) e s = close-sound h m c s
+-- of an accepted call the layer keeps the rules, and no refusal stops the stamps
+call-stamps : (t : Thresholds) (h : Hours) (m : ℕ) (c : Carried) (n : ℕ) (x : Call) → verdictBy t (validLayer h m c) h (c .last) n x ≡ Accepted
+    → LayerMeets h m c × (firstTrue (stampsTried h (c .last) (stampsIn (eventsIn x))) ≡ Accepted)
+unfolding stampsIn stampsTried firstTrue
+call-stamps t h m c n (Run prices stamps sheet) e =
+    let met = run-meets t h m c n (length prices) stamps (length sheet) e in
+    (met .layer, rw (minutes-stamps stamps (barsOf prices) (met .one-each ∙ sym (length-bars prices))) (met .rising))
+call-stamps t h m c n (Shut sheet) e = (close-meets t h m c n (length sheet) e .layer, refl)
 
 -- ---- the layer that events left
 
@@ -101,47 +108,65 @@ module _ (l : Layer) (start : NoBars (l .inner)) where
   abbrev on : List Event → Call → Verdict
   on es x = verdictOn (l .inner .thresholds) (l .hours) (l .minutes) es x
 
-  -- its kept stamp lies in the hours, and an open term bar has a stamp: 12 can't be true of it for these
+  -- no refusal stops the stamps of the events; if there is one, the hours and the term length keep the rules
   unfoldable pub Kept : List Event → Type 0
-  Kept es = soundCarried (l .hours) (carried es .last) (carried es .pending) ≡ true
+  Kept es = (firstTrue (stampsTried (l .hours) Never (stampsIn es)) ≡ Accepted) × (1 ≤ length (stampsIn es) → TermRule (l .hours) (l .minutes))
 
-  -- its verdict on a call is that of the events
+  -- so 12 can't be true of the layer for its stamp or an open term bar, and its verdict on a call is that of the events
   verdict-at : (es : List Event) (x : Call) → Kept es → verdictAt (layerOf es) x ≡ on es x
-  unfolding Kept validLayer
+  unfolding Kept validLayer soundCarried
   verdict-at es x k =
       let last = carried-last (l .hours) (l .minutes) nothingYet es in
-      rw (count-after (l .inner) start (ended es), k, and-true (validHours (l .hours) && termLength (l .minutes)), last)
+      let sound = events-sound (l .hours) (l .minutes) nothingYet es (k .0) refl in
+      rw (count-after (l .inner) start (ended es), sound, and-true (validHours (l .hours) && termLength (l .minutes)), last)
 
   pub verdict-step : (es : List Event) (x : Call) → Kept es → called (layerOf es) x .verdict ≡ on es x
   verdict-step es x k = ap (λ (o : Taken). o .verdict) (called-is (layerOf es) x) ∙ verdict-at es x k
 
   -- no event left it so, and each call leaves it so
   pub kept-none : Kept []
-  unfolding Kept carriedOf soundCarried
-  kept-none = refl
+  unfolding Kept stampsIn stampsTried firstTrue
+  kept-none = (refl, λ some. absurd (let z : ⊥ = omega arith in z))
 
   kept-by : (v : Verdict) (es : List Event) (x : Call) → verdictAt (layerOf es) x ≡ v → Kept es → Kept (leaves v es (es ++ eventsIn x))
   unfolding Kept
-  kept-by Accepted es x e k = rw (carried-append (l .hours) (l .minutes) nothingYet es (eventsIn x)) (call-sound _ _ _ _ _ x e k)
+  kept-by Accepted es x e k =
+      let met = call-stamps _ _ _ (carried es) _ x e in (
+        stamps-append (l .hours) Never es (eventsIn x) (k .0) (rw (← carried-last (l .hours) (l .minutes) nothingYet es) (met .1)),
+        λ some. term-rule (l .hours) (l .minutes) (term-some _ (met .0 .minutes)) (met .0 .hours),
+      )
   kept-by (Denied r) es x e k = k
 
   pub kept-step : (es : List Event) (x : Call) → Kept es → Kept (appended (l .inner .thresholds) (l .hours) (l .minutes) es x)
   kept-step es x k = rw (verdict-at es x k) at (kept-by (verdictAt (layerOf es) x) es x refl k)
 
+  -- so the stamps rise
+  pub kept-rising : (es : List Event) → Kept es → Rising (l .hours) (l .minutes) (stampsIn es)
+  unfolding Kept
+  kept-rising es k =
+      let ss = stampsIn es in
+      let inside : (i : ℕ) → i < length ss → inHours (l .hours) (getD ss i 0) ≡ true = λ i within. stamps-at (l .hours) Never ss i within (k .0) .1 in
+      let up : (i j : ℕ) → i < j → j < length ss → getD ss i 0 < getD ss j 0 = λ i j less within. stamps-rise (l .hours) Never ss i j less within (k .0) in
+      record {
+        inside = inside;
+        above = up;
+        later = λ i j less within. k .1 (omega arith) .rise (getD ss i 0) (getD ss j 0) (inside i (omega arith)) (inside j within) (omega (arith, up i j less within));
+      }
+
   -- an accepted call leaves the layer that the events and its own leave
-  accepted-layer : (es : List Event) (x : Call) → verdictAt (layerOf es) x ≡ Accepted → afterEvents (layerOf es) (eventsIn x) (length (sheetIn x)) ≡ layerOf (es ++ eventsIn x)
+  accepted-layer : (es : List Event) (x : Call) → verdictAt (layerOf es) x ≡ Accepted → afterEvents (layerOf es) (eventsIn x) (length (lentSheet x)) ≡ layerOf (es ++ eventsIn x)
   accepted-layer es x e =
       let new = eventsIn x in
       let feed = call-feed _ _ _ _ _ x e in
       rw (
-        box-is (layerOf es) new (sheetIn x) feed,
+        box-is (layerOf es) new (lentSheet x) feed,
         taken-append (l .inner) (start .all-places) (ended es) (endedOf (l .hours) (l .minutes) (carried es) new),
         ← ended-append (l .hours) (l .minutes) nothingYet es new,
         ← carried-append (l .hours) (l .minutes) nothingYet es new,
       )
 
   layer-by : (v : Verdict) (es : List Event) (x : Call) → verdictAt (layerOf es) x ≡ v
-      → leaves v (layerOf es) (afterEvents (layerOf es) (eventsIn x) (length (sheetIn x))) ≡ layerOf (leaves v es (es ++ eventsIn x))
+      → leaves v (layerOf es) (afterEvents (layerOf es) (eventsIn x) (length (lentSheet x))) ≡ layerOf (leaves v es (es ++ eventsIn x))
   layer-by Accepted es x e = accepted-layer es x e
   layer-by (Denied r) es x e = refl
 
@@ -154,7 +179,7 @@ module _ (l : Layer) (start : NoBars (l .inner)) where
   -- the rows that a call gives are those of its term bars over all term bars before them
   rows-by : (v : Verdict) (es : List Event) (x : Call) → verdictAt (layerOf es) x ≡ v
       → let new = endedIn (layerOf es) (eventsIn x) in
-      take (rowBytes * leaves v 0 (length new)) (takenSheet v (layerOf es) (eventsIn x) (sheetIn x))
+      take (rowBytes * leaves v 0 (length new)) (takenSheet v (layerOf es) (eventsIn x) (lentSheet x))
       ≡ leaves v [] (rowsOf (l .inner .thresholds) (length (ended es)) (ended es) new)
   rows-by Accepted es x e =
       let t = l .inner .thresholds in
@@ -162,12 +187,12 @@ module _ (l : Layer) (start : NoBars (l .inner)) where
       let new = endedIn (layerOf es) (eventsIn x) in
       let feed = call-feed _ _ _ _ _ x e in
       rw (
-        sheet-is (layerOf es) (eventsIn x) (sheetIn x) feed,
+        sheet-is (layerOf es) (eventsIn x) (lentSheet x) feed,
         kept-after (l .inner) start old,
         count-after (l .inner) start old,
         rows-newest places (omega arith) t (length old) old new,
       )
-      (take-at (rowsOf t (length old) old new) (drop (0 + length (rowsOf t (length old) old new)) (sheetIn x)) (rowBytes * length new) (length-rows t (length old) old new))
+      (take-at (rowsOf t (length old) old new) (drop (0 + length (rowsOf t (length old) old new)) (lentSheet x)) (rowBytes * length new) (length-rows t (length old) old new))
   rows-by (Denied r) es x e = refl
 
   pub rows-step : (es : List Event) (x : Call) → Kept es
@@ -180,5 +205,5 @@ module _ (l : Layer) (start : NoBars (l .inner)) where
 
   -- where the events say that a call is accepted, a feed of its term bars is
   pub events-feed : (es : List Event) (x : Call) → Kept es → on es x ≡ Accepted
-      → feedVerdict (l .inner .thresholds) (length (ended es)) (length (pricesOf (endedOf (l .hours) (l .minutes) (carried es) (eventsIn x)))) (length (sheetIn x)) ≡ Accepted
+      → feedVerdict (l .inner .thresholds) (length (ended es)) (length (pricesOf (endedOf (l .hours) (l .minutes) (carried es) (eventsIn x)))) (length (lentSheet x)) ≡ Accepted
   events-feed es x k e = rw (count-after (l .inner) start (ended es)) at (call-feed _ _ _ (carried es) _ x (verdict-at es x k ∙ e))

@@ -4,23 +4,21 @@ use mathlib.Core.Path.{_≡_, refl, sym}
 use mathlib.Core.Bool.{Bool, true, false, _&&_}
 use mathlib.Core.List.{List, [], _∷_, _++_, append-assoc, append-nil}
 use native.Mathlib.Omega.{arith}
-use native.Mathlib.Nat.{zero-add}
 use native.Mathlib.Numerals.{add-one}
 use lib.ListN.{length, getD, take, drop, length-append, length-drop}
 use lib.Seq.{take-suc, take-add, getD-drop}
 use lib.Dec.{ltb}
 use borrow.Author.Tests.{lt-ltb, ltb-true}
-use Rattle.terms.specs.declared.events.Step.{Step}
 use Rattle.measures.specs.Bar.{Bar, noBar}
 use Rattle.trading_hours.specs.declared.hours.Hours.{Hours}
 use Rattle.trading_hours.proofs.HourLaws.{both}
 use Rattle.terms.specs.declared.events.OpenBar.{OpenBar}
 use Rattle.terms.specs.declared.events.OpenBar.the-variants.{Nothing, Begun}
 use Rattle.terms.specs.declared.events.Carried.{Carried}
-use Rattle.terms.specs.Events.{Event, Minute, Close, barsIn, endedAt, carriedAt, endedOf, carriedOf, lastOf, minutesOf, stepOf}
-use Rattle.terms.specs.Passing.{someIn}
+use Rattle.terms.specs.Events.{Event, Minute, Close, openBars, endedAt, carriedAt, endedOf, carriedOf, lastOf, minutesOf, minuteStep}
+use Rattle.terms.specs.Passing.{roomBars, someIn}
 
-pub few-in : (p : OpenBar) → length (barsIn p) ≤ 1
+pub few-in : (p : OpenBar) → length (openBars p) ≤ 1
 few-in Nothing = omega arith
 few-in (Begun b) = omega arith
 
@@ -48,7 +46,7 @@ module _ (h : Hours) (m : ℕ) where
 
   -- the stamp that is kept is that of the last bar
   pub carried-last : (c : Carried) (es : List Event) → carriedOf h m c es .last ≡ lastOf (c .last) es
-  unfolding carriedOf lastOf stepOf
+  unfolding carriedOf lastOf minuteStep
   carried-last c [] = refl
   carried-last c (Minute s b ∷ es) = carried-last (carriedAt h m c (Minute s b)) es
   carried-last c (Close ∷ es) = carried-last (carriedAt h m c Close) es
@@ -56,7 +54,7 @@ module _ (h : Hours) (m : ℕ) where
   -- ---- how many end
 
   few-at : (c : Carried) (e : Event) → length (endedAt h m c e) ≤ 1
-  few-at c (Minute s b) = few-in (stepOf h m c s b .ended)
+  few-at c (Minute s b) = few-in (minuteStep h m c s b .ended)
   few-at c Close = few-in (c .pending)
 
   -- no more than there are events
@@ -83,57 +81,45 @@ minute-at (s ∷ ss) [] i h e = absurd (let z : ⊥ = omega arith in z)
 minute-at (s ∷ ss) (b ∷ bars) zero h e = refl
 minute-at (s ∷ ss) (b ∷ bars) (suc i) h e = minute-at ss bars i (omega arith) (omega arith)
 
--- one more of the events from one on
-pub next-minute : (ss : List ℕ) (bars : List Bar) (from k : ℕ) → from + k < length ss → length ss ≡ length bars
-    → let es = drop from (minutesOf ss bars) in take (k + 1) es ≡ take k es ++ (Minute (getD ss (from + k) 0) (getD bars (from + k) noBar) ∷ [])
-next-minute ss bars from k h e =
+-- one more of the events from one on, which is the i-th
+pub next-minute : (ss : List ℕ) (bars : List Bar) (from k i : ℕ) → i ≡ from + k → i < length ss → length ss ≡ length bars
+    → let es = drop from (minutesOf ss bars) in take (k + 1) es ≡ take k es ++ (Minute (getD ss i 0) (getD bars i noBar) ∷ [])
+next-minute ss bars from k i at h e =
     let es = minutesOf ss bars in
     let all = length-minutes ss bars e in
     let left : k < length (drop from es) = rw length-drop (omega arith) in
-    rw (add-one k, take-suc (drop from es) k Close left, getD-drop from es k Close, minute-at ss bars (from + k) h e)
+    rw (add-one k, take-suc (drop from es) k Close left, getD-drop from es k Close, ← at, minute-at ss bars i h e)
 
 -- ---- passing one bar more
 
-module _ (h : Hours) (m : ℕ) (c : Carried) (ss : List ℕ) (bars : List Bar) (from k : ℕ) (within : from + k < length ss) (each : length ss ≡ length bars) where
+module _ (h : Hours) (m : ℕ) (c : Carried) (ss : List ℕ) (bars : List Bar) (from k i : ℕ) (at : i ≡ from + k) (within : i < length ss) (each : length ss ≡ length bars) where
   abbrev events : List Event
   events = drop from (minutesOf ss bars)
 
-  abbrev next : Step
-  next = stepOf h m (carriedOf h m c (take k events)) (getD ss (from + k) 0) (getD bars (from + k) noBar)
+  abbrev next : Event
+  next = Minute (getD ss i 0) (getD bars i noBar)
 
-  pub ended-next : endedOf h m c (take (k + 1) events) ≡ endedOf h m c (take k events) ++ barsIn (next .ended)
-  ended-next =
-      let e = Minute (getD ss (from + k) 0) (getD bars (from + k) noBar) in
-      rw (next-minute ss bars from k within each, ended-append h m c (take k events) (e ∷ []), ended-one h m (carriedOf h m c (take k events)) e)
+  abbrev passed : Carried
+  passed = carriedOf h m c (take k events)
 
-  pub carried-next : carriedOf h m c (take (k + 1) events) ≡ next .carried
-  carried-next =
-      let e = Minute (getD ss (from + k) 0) (getD bars (from + k) noBar) in
-      rw (next-minute ss bars from k within each, carried-append h m c (take k events) (e ∷ []), carried-one h m (carriedOf h m c (take k events)) e)
+  pub ended-next : endedOf h m c (take (k + 1) events) ≡ endedOf h m c (take k events) ++ endedAt h m passed next
+  ended-next = rw (next-minute ss bars from k i at within each, ended-append h m c (take k events) (next ∷ []), ended-one h m passed next)
 
--- from the first on
-module _ (h : Hours) (m : ℕ) (c : Carried) (ss : List ℕ) (bars : List Bar) (k : ℕ) (within : k < length ss) (each : length ss ≡ length bars) where
-  abbrev front : Step
-  front = stepOf h m (carriedOf h m c (take k (minutesOf ss bars))) (getD ss k 0) (getD bars k noBar)
+  pub carried-next : carriedOf h m c (take (k + 1) events) ≡ carriedAt h m passed next
+  carried-next = rw (next-minute ss bars from k i at within each, carried-append h m c (take k events) (next ∷ []), carried-one h m passed next)
 
-  pub ended-front : endedOf h m c (take (k + 1) (minutesOf ss bars)) ≡ endedOf h m c (take k (minutesOf ss bars)) ++ barsIn (front .ended)
-  ended-front = rw (zero-add k) at (ended-next h m c ss bars 0 k (rw (zero-add k) within) each)
-
-  pub carried-front : carriedOf h m c (take (k + 1) (minutesOf ss bars)) ≡ front .carried
-  carried-front = rw (zero-add k) at (carried-next h m c ss bars 0 k (rw (zero-add k) within) each)
-
-pub none-in : (p : OpenBar) → someIn p ≡ false → barsIn p ≡ []
+pub none-in : (p : OpenBar) → someIn p ≡ false → openBars p ≡ []
 none-in Nothing e = refl
 none-in (Begun b) e = cc
 
--- a loop's turn: a bar is left, and fewer than 32 term bars ended
-pub turn-of : (k n count : ℕ) → (ltb k n && ltb count 32) ≡ true → (k < n) × (count < 32)
-turn-of k n count e = let each = both (ltb k n) (ltb count 32) e in (ltb-true k n (each .0), ltb-true count 32 (each .1))
+-- a loop's turn: a bar is left, and there is room for another term bar
+pub turn-of : (k n count : ℕ) → (ltb k n && ltb count roomBars) ≡ true → (k < n) × (count < roomBars)
+turn-of k n count e = let each = both (ltb k n) (ltb count roomBars) e in (ltb-true k n (each .0), ltb-true count roomBars (each .1))
 
--- a loop that stops where no bar is left or 32 term bars ended has passed some bar, if there was one
-pub passed-some : (k n count : ℕ) → (ltb k n && ltb count 32) ≡ false → count ≤ k → 1 ≤ n → 1 ≤ k
+-- a loop that stops where no bar is left or there is no room has passed some bar, if there was one
+pub passed-some : (k n count : ℕ) → (ltb k n && ltb count roomBars) ≡ false → count ≤ k → 1 ≤ n → 1 ≤ k
 passed-some zero n count e few some =
-    let z : _≡_ {A = Bool} true false = simp (lt-ltb 0 n (omega arith), lt-ltb count 32 (omega arith)) at e in
+    let z : _≡_ {A = Bool} true false = simp (lt-ltb 0 n (omega arith), lt-ltb count roomBars (omega arith)) at e in
     absurd (let w : _≡_ {A = ℕ} 0 1 = cc in let z' : ⊥ = omega arith in z')
 passed-some (suc k) n count e few some = omega arith
 

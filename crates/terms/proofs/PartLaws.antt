@@ -26,7 +26,7 @@ pub record PartFits (t : Thresholds) (n sheet bars passed old : ℕ) (f : Filled
   pub within : passed + f .passed ≤ bars
   pub most : bars ≤ mostBars
   pub few : old + f .count ≤ mostBars
-  pub accepted : feedVerdict t (n + old) (4 * f .count) (36 * f .count) ≡ Accepted
+  pub accepted : feedVerdict t (n + old) (4 * f .count) (rowBytes * f .count) ≡ Accepted
   pub room : rowBytes * (old + f .count) ≤ sheet
 
 module _ (h : Hours) (m : ℕ) (c : Carried) (ps : List Float) (ss : List ℕ) (each : length ss ≡ length (barsOf ps)) where

@@ -10,7 +10,7 @@ use lib.Seq.{take-all}
 use lib.Ieee.{Float}
 use Rattle.measures.specs.Bar.{Bar, barsOf, overlay, pricesOf}
 use Rattle.measures.proofs.RunLaws.{length-bars, bars-drop}
-use Rattle.recognisers.specs.Number.{places}
+use Rattle.recognisers.specs.Number.{places, rowBytes}
 use Rattle.recognisers.specs.declared.call.Verdict.{Verdict}
 use Rattle.recognisers.specs.declared.call.Verdict.the-variants.{Accepted, Denied}
 use Rattle.bar_box.specs.Sheet.{rowsOf}
@@ -18,17 +18,19 @@ use Rattle.bar_box.specs.Box.{takenIn, feedVerdict, madeOf as boxMade}
 use Rattle.recognisers.specs.Refusal.{leaves}
 use Rattle.measures.proofs.Overlay.{overlay-none}
 use Rattle.bar_box.proofs.BoxLaws.{taken-none}
-use Rattle.bar_box.proofs.FeedSteps.{none-true, fits, accepts}
+use Rattle.bar_box.proofs.FeedSteps.{none-true, fits}
 use Rattle.bar_box.proofs.PartLaws.{rowsFrom, made-valid}
 use Rattle.trading_hours.specs.declared.hours.Hours.{Hours}
 use Rattle.trading_hours.proofs.HourLaws.{term-some}
 use Rattle.terms.specs.declared.events.Carried.{Carried}
 use Rattle.terms.specs.declared.layers.Layer.{Layer}
-use Rattle.terms.specs.Events.{Event, endedOf, carriedOf, minutesOf, Close, nothingYet, carriedWith, barsIn}
+use Rattle.terms.specs.Events.{Event, endedOf, carriedOf, minutesOf, Close, nothingYet, carriedWith, openBars}
 use Rattle.terms.specs.Layer.{layerWith, runVerdictOf, endedIn, taken, takenOf, takenSheet, ranOf, ranSheet, wholeDay, makeVerdict, madeBy, madeOf, closeVerdictOf, closedOf, closedSheet}
 use Rattle.terms.specs.Passing.{Ready, progressOf}
-use Rattle.terms.proofs.EventLaws.{carried-append, ended-append, ended-few, length-minutes, few-in, ended-one}
-use Rattle.terms.proofs.FeedLaws.{bars-accepted, few-accepted, some-room}
+use Rattle.terms.proofs.EventLaws.{carried-append, ended-append, length-minutes, few-in, ended-one}
+use Rattle.terms.proofs.FeedLaws.{fewer-accepted, some-room}
+use Rattle.terms.specs.History.{Run, Shut}
+use Rattle.terms.proofs.CallSteps.{call-feed}
 use Rattle.terms.proofs.CallLaws.{run-meets, taken-is, sheet-is, close-meets}
 use Rattle.terms.proofs.PassingLaws.{minutes-drop, ready-after}
 use Rattle.recognisers.specs.Threshold.{Thresholds, standardSet}
@@ -71,12 +73,7 @@ module _ (l : Layer) (ps : List Float) (ss sheet : List ℕ) where
 
     -- the box's own feed is not refused
     run-feed : feedVerdict (l .inner .thresholds) (l .inner .count) (length (pricesOf (endedIn l events))) (length sheet) ≡ Accepted
-    run-feed =
-        let met = run-meets _ _ _ _ _ _ _ _ e in
-        let each = met .one-each in
-        let total = length-minutes ss (barsOf ps) one-each in
-        let few = ended-few h m (l .carried) events in
-        bars-accepted _ _ _ _ (met .feed) (endedIn l events) (omega arith)
+    run-feed = call-feed _ _ _ _ _ (Run ps ss sheet) e
 
     -- what it leaves
     ran-is : taken Accepted (length (endedIn l events)) (layerWith h m (carriedOf h m (l .carried) events) (takenIn (l .inner) (endedIn l events))) ≡ ranOf l ps ss (length sheet)
@@ -108,19 +105,22 @@ module _ (l : Layer) (ps : List Float) (ss sheet : List ℕ) where
           let whole = carried-append h m (l .carried) (take k events) (drop k events) in
           rw (later-is) (sym (rw (take-append-drop k events) at whole))
 
-      pub later-ready : Ready h m mid (drop k ss)
-      later-ready = ready-after h m (l .carried) ss (barsOf ps) k one-each run-ready
+      -- the code hands on what is left of the prices and stamps
+      pub left-are : (take (length ps - 4 * k) (drop (4 * k) ps) ≡ drop (4 * k) ps) × (take (length ss - k) (drop k ss) ≡ drop k ss)
+      left-are = (take-all (length ps - 4 * k) (drop (4 * k) ps) (omega (arith, length-drop (4 * k) ps)), take-all (length ss - k) (drop k ss) (omega (arith, length-drop k ss)))
 
-      pub later-each : length (drop k ss) ≡ length (barsOf (drop (4 * k) ps))
-      later-each = let at : 4 * k ≡ k * 4 = omega arith in rw (at, bars-drop k ps, length-drop, length-drop, one-each)
-
-      pub later-feed : feedVerdict (l .inner .thresholds) (l .inner .count) (length (drop (4 * k) ps)) (length sheet) ≡ Accepted
-      later-feed =
-          let f = fits _ _ _ _ (run-meets _ _ _ _ _ _ _ _ e .feed) in
+      pub later-fits : Ready h m mid (drop k ss) × (length (drop k ss) ≡ length (barsOf (drop (4 * k) ps))) × (feedVerdict (l .inner .thresholds) (l .inner .count) (length (drop (4 * k) ps)) (length sheet) ≡ Accepted)
+      later-fits =
+          let feed = run-meets _ _ _ _ _ _ _ _ e .feed in
+          let f = fits _ _ _ _ feed in
           let left = length-drop (4 * k) ps in
           let each = one-each in
           let bars = length-bars ps in
-          accepts _ _ _ _ (record { valid = f .valid; whole = omega (arith, f .whole); few = omega (arith, f .few); room = omega (arith, f .room) })
+          let at : 4 * k ≡ k * 4 = omega arith in (
+            ready-after h m (l .carried) ss (barsOf ps) k one-each run-ready,
+            rw (at, bars-drop k ps, length-drop, length-drop, one-each),
+            fewer-accepted _ _ _ _ feed _ _ _ (omega (arith, f .whole)) (omega arith) (omega (arith, f .room)),
+          )
 
       pub later-ran : let p = progressOf h m mid (l .inner) later in taken Accepted (p .rows) (layerWith h m (p .carried) (p .inner)) ≡ ranOf l ps ss (length sheet)
       later-ran = rw (ended-later, carried-later) ran-is
@@ -156,28 +156,26 @@ made-is t h m (Denied r) e = rw (made-valid standardSet standard-valid) (ap (λ 
 
 -- ---- a close, as the code goes by the verdict: a refused one ends nothing
 
-module _ (l : Layer) (sheet : List ℕ) (all : length (l .inner .bars) ≡ places) where
-  abbrev pub closing : Verdict → List Bar
-  closing v = barsIn (leaves v Nothing (l .carried .pending))
+abbrev pub closing : Layer → Verdict → List Bar
+closing l v = openBars (leaves v Nothing (l .carried .pending))
 
+module _ (l : Layer) (sheet : List ℕ) where
   -- where something ends the box's own feed is accepted, and the sheet has room for a row
   pub close-fits : (v : Verdict) → closeVerdictOf l (length sheet) ≡ v
-      → (1 ≤ length (closing v) → feedVerdict (l .inner .thresholds) (l .inner .count) (4 * length (closing v)) (36 * length (closing v)) ≡ Accepted) × (36 * length (closing v) ≤ length sheet)
+      → (1 ≤ length (closing l v) → feedVerdict (l .inner .thresholds) (l .inner .count) (4 * length (closing l v)) (rowBytes * length (closing l v)) ≡ Accepted) × (rowBytes * length (closing l v) ≤ length sheet)
   close-fits Accepted e =
       let met = close-meets _ _ _ _ _ _ e in
       let few = few-in (l .carried .pending) in
-      (λ some. few-accepted _ _ _ _ (met .feed) (length (closing Accepted)) (omega arith), omega (arith, some-room _ _ _ _ (met .feed) 0 (length (closing Accepted)) (omega arith)))
+      (λ some. fewer-accepted _ _ _ _ (met .feed) _ _ _ (omega arith) (omega arith) (omega arith), omega (arith, some-room _ _ _ _ (met .feed) 0 (length (closing l Accepted)) (omega arith)))
   close-fits (Denied r) e = (λ some. absurd (let z : ⊥ = omega arith in z), omega arith)
 
-  pub closed-is : (v : Verdict) → closeVerdictOf l (length sheet) ≡ v
-      → (taken v (length (closing v)) (layerWith (l .hours) (l .minutes) (leaves v (l .carried) (carriedWith (l .carried .last) Nothing)) (takenIn (l .inner) (closing v))) ≡ closedOf l (length sheet))
-      × (overlay sheet 0 (rowsFrom (l .inner) (closing v)) ≡ closedSheet l sheet)
+  pub closed-is : length (l .inner .bars) ≡ places → (v : Verdict) → closeVerdictOf l (length sheet) ≡ v
+      → (taken v (length (closing l v)) (layerWith (l .hours) (l .minutes) (leaves v (l .carried) (carriedWith (l .carried .last) Nothing)) (takenIn (l .inner) (closing l v))) ≡ closedOf l (length sheet))
+      × (overlay sheet 0 (rowsFrom (l .inner) (closing l v)) ≡ closedSheet l sheet)
   unfolding closedOf closedSheet carriedOf rowsOf
-  closed-is Accepted e =
+  closed-is all Accepted e =
       let es = Close ∷ [] in
-      let ended : endedIn l es ≡ closing Accepted = ended-one (l .hours) (l .minutes) (l .carried) Close in
-      let met = close-meets _ _ _ _ _ _ e in
-      let few = few-in (l .carried .pending) in
-      let feed = bars-accepted _ _ _ _ (met .feed) (endedIn l es) (rw ended (omega arith)) in
+      let ended : endedIn l es ≡ closing l Accepted = ended-one (l .hours) (l .minutes) (l .carried) Close in
+      let feed = call-feed _ _ _ _ _ (Shut sheet) e in
       (rw (← ended) (taken-is l es sheet feed ∙ ap (λ (v : Verdict). takenOf v l es (length sheet)) (sym e)), rw (← ended) (sym (sheet-is l es sheet feed) ∙ ap (λ (v : Verdict). takenSheet v l es sheet) (sym e)))
-  closed-is (Denied r) e = (rw (taken-none (l .inner) all, e), rw e (overlay-none sheet 0))
+  closed-is all (Denied r) e = (rw (taken-none (l .inner) all, e), rw e (overlay-none sheet 0))

@@ -6,14 +6,12 @@ use mathlib.Core.List.{List, [], _∷_, _++_, flatten, append-nil}
 use native.Mathlib.Omega.{arith}
 use native.Mathlib.Nat.{zero-add}
 use lib.ListN.{length, length-append}
-use Rattle.measures.specs.Bar.{Bar, pricesOf}
-use Rattle.recognisers.specs.Threshold.{Thresholds}
+use Rattle.measures.specs.Bar.{Bar, pricesOf, barsOf}
+use Rattle.recognisers.specs.Threshold.{Thresholds, standardSet, validOf}
 use Rattle.recognisers.specs.declared.call.Verdict.{Verdict}
 use Rattle.recognisers.specs.declared.call.Verdict.the-variants.{Accepted, Denied}
 use Rattle.recognisers.specs.Number.{rowBytes}
 use Rattle.bar_box.specs.Sheet.{rowsOf}
-use Rattle.measures.specs.Bar.{barsOf}
-use Rattle.recognisers.specs.Threshold.{standardSet, validOf}
 use borrow.Author.Tests.{not-false}
 use Rattle.bar_box.specs.Box.{fedOf}
 use Rattle.recognisers.specs.Refusal.{leaves}
@@ -29,13 +27,13 @@ use Rattle.bar_box.proofs.FeedLists.{Sound, sound-empty, one-accepted, one-box,
 use Rattle.trading_hours.specs.declared.hours.Hours.{Hours}
 use Rattle.terms.specs.declared.events.Carried.{Carried}
 use Rattle.terms.specs.declared.layers.Layer.{Layer}
-use Rattle.terms.specs.Events.{Event, nothingYet, endedOf, carriedOf}
-use Rattle.terms.specs.History.{Call, eventsIn, verdictOn, appended, eventsAfter, called, layerLeft, layerAfter, endedInCall, joinedEnded, rowsOfCall, joinedRows, Holds, NoneYet, TermCalls}
+use Rattle.terms.specs.Events.{Event, nothingYet, endedOf, carriedOf, stampsIn}
+use Rattle.terms.specs.History.{Call, eventsIn, verdictOn, appended, eventsAfter, called, layerLeft, layerAfter, endedInCall, joinedEnded, rowsOfCall, joinedRows, Rising, Holds, NoneYet, TermCalls}
 use Rattle.trading_hours.specs.Hours.{mostWindows, windowsOf, withZeros, validHours, risingFrom, termLength}
 use Rattle.trading_hours.proofs.HourLaws.{zeros-windows}
 use Rattle.terms.specs.Layer.{wholeDay, soundCarried, validLayer, makeVerdict, taken, madeBy, madeOf}
 use Rattle.terms.proofs.EventLaws.{carried-last, ended-append}
-use Rattle.terms.proofs.CallSteps.{box-accepts, Kept, kept-none, kept-step, events-feed, layerOf, verdict-step, layer-step, rows-step}
+use Rattle.terms.proofs.CallSteps.{box-accepts, Kept, kept-none, kept-step, kept-rising, events-feed, layerOf, verdict-step, layer-step, rows-step}
 
 -- ---- one feed of bars to no history
 
@@ -141,6 +139,10 @@ module _ (l : Layer) (start : NoneYet l) where
     unfolding Follows
     joined-layer = layer-after xs .0
 
+    events-rise : Rising (l .hours) (l .minutes) (stampsIn events)
+    unfolding Follows
+    events-rise = kept-rising l (start .no-bars) events (layer-after xs .1)
+
     -- the rows are those of the term bars that ended in it
     pub joined-rows : joinedRows l xs ≡ rowsOf t 0 [] (ended events)
     unfolding rowsOf endedOf
@@ -169,6 +171,7 @@ module _ (l : Layer) (start : NoneYet l) where
           record {
             -- (a)
             refusals = each-after (λ x c. called x c .verdict) on (verdict-step l (start .no-bars)) xs;
+            rising = events-rise;
             -- (b)
             same-ended = joined-ended;
             -- (c)

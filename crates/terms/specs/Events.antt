@@ -2,7 +2,7 @@
 use Prim.Native.Nat.{ℕ}
 use mathlib.Core.Path.{_≡_}
 use mathlib.Core.Bool.{Bool, true, false, cond}
-use mathlib.Core.List.{List, [], _∷_, _++_, foldl, map}
+use mathlib.Core.List.{List, [], _∷_, _++_, foldl, map, List·Memᴰ}
 use Rattle.measures.specs.Bar.{Bar, barOf, noBar}
 use Rattle.measures.specs.Price.{maxOf, minOf}
 use Rattle.measures.specs.declared.folds.Column.the-variants.{Close as CloseOf, High, Low}
@@ -29,10 +29,10 @@ carriedWith last pending = record { last = last; pending = pending }
 abbrev pub nothingYet : Carried
 nothingYet = carriedWith Never Nothing
 
--- whether a stamp lies in the term of the last one; stamps rise, so another term is a later one
-unfoldable pub goesOn : Hours → ℕ → LastStamp → ℕ → Bool
-goesOn h m Never stamp = false
-goesOn h m (At last) stamp = sameTerm (termOf h m last) (termOf h m stamp)
+-- whether a stamp lies in the term of the last one; accepted stamps rise, so another term is a later one
+unfoldable pub inTermOf : Hours → ℕ → LastStamp → ℕ → Bool
+inTermOf h m Never stamp = false
+inTermOf h m (At last) stamp = sameTerm (termOf h m last) (termOf h m stamp)
 
 -- ---- one event
 
@@ -56,22 +56,22 @@ endedBy (Begun a) false = Begun a
 abbrev pub stepBy : Bool → Carried → ℕ → Bar → Step
 stepBy same c stamp b = record { ended = endedBy (c .pending) same; carried = carriedWith (At stamp) (opened (c .pending) same b) }
 
-unfoldable pub stepOf : Hours → ℕ → Carried → ℕ → Bar → Step
-stepOf h m c stamp b = stepBy (goesOn h m (c .last) stamp) c stamp b
+unfoldable pub minuteStep : Hours → ℕ → Carried → ℕ → Bar → Step
+minuteStep h m c stamp b = stepBy (inTermOf h m (c .last) stamp) c stamp b
 
 -- one bar or none: "Terms without a bar give none"
-abbrev pub barsIn : OpenBar → List Bar
-barsIn Nothing = []
-barsIn (Begun b) = b ∷ []
+abbrev pub openBars : OpenBar → List Bar
+openBars Nothing = []
+openBars (Begun b) = b ∷ []
 
 -- what an event ends, and what is carried on after it: "or the caller closes the day". A close keeps the stamp and leaves nothing open, so that
 -- "a bar that comes after a close within its own term begins a term bar of its own"
 abbrev pub endedAt : Hours → ℕ → Carried → Event → List Bar
-endedAt h m c (Minute stamp b) = barsIn (stepOf h m c stamp b .ended)
-endedAt h m c Close = barsIn (c .pending)
+endedAt h m c (Minute stamp b) = openBars (minuteStep h m c stamp b .ended)
+endedAt h m c Close = openBars (c .pending)
 
 abbrev pub carriedAt : Hours → ℕ → Carried → Event → Carried
-carriedAt h m c (Minute stamp b) = stepOf h m c stamp b .carried
+carriedAt h m c (Minute stamp b) = minuteStep h m c stamp b .carried
 carriedAt h m c Close = carriedWith (c .last) Nothing
 
 -- ---- a list of events: the term bars that end in it, and what is left
@@ -90,43 +90,56 @@ lastOf last [] = last
 lastOf last (Minute stamp b ∷ es) = lastOf (At stamp) es
 lastOf last (Close ∷ es) = lastOf last es
 
+-- the stamps of its bars
+unfoldable pub stampsIn : List Event → List ℕ
+stampsIn [] = []
+stampsIn (Minute stamp b ∷ es) = stamp ∷ stampsIn es
+stampsIn (Close ∷ es) = stampsIn es
+
 -- the events of a run: one stamp a bar
 unfoldable pub minutesOf : List ℕ → List Bar → List Event
 minutesOf [] bars = []
 minutesOf (s ∷ ss) [] = []
 minutesOf (s ∷ ss) (b ∷ bars) = Minute s b ∷ minutesOf ss bars
 
--- ---- the same by the bars of each term, kept as lists: what the bar of a term is made of
+-- ---- the same by the bars of each term, kept as lists with their stamps: what the bar of a term is made of
 
 -- the bar of a term's bars, oldest first: the first open, the last close, and 01's folds of the highs and lows, begun with the first bar's own
-unfoldable pub termBar : List Bar → Bar
+unfoldable pub termBar : List (ℕ × Bar) → Bar
 termBar [] = noBar
-termBar (b ∷ bars) =
-    barOf (b .«open») (foldl (λ x y. y) (b .close) (columnOf CloseOf bars)) (foldl maxOf (b .high) (columnOf High bars)) (foldl minOf (b .low) (columnOf Low bars))
+termBar (x ∷ xs) =
+    let b = x .1 in
+    let bars = map (λ y. y .1) xs in
+    barOf (b .«open») (foldl (λ p q. q) (b .close) (columnOf CloseOf bars)) (foldl maxOf (b .high) (columnOf High bars)) (foldl minOf (b .low) (columnOf Low bars))
 
 -- the bars of a term, unless there is none
-abbrev pub termIn : List Bar → List (List Bar)
+abbrev pub termIn : List (ℕ × Bar) → List (List (ℕ × Bar))
 termIn [] = []
-termIn (b ∷ bars) = (b ∷ bars) ∷ []
+termIn (x ∷ xs) = (x ∷ xs) ∷ []
 
 -- the bars of each term that ends in a list of events, after a last stamp and the bars of an open term
-unfoldable pub endedTerms : Hours → ℕ → LastStamp → List Bar → List Event → List (List Bar)
+unfoldable pub endedTerms : Hours → ℕ → LastStamp → List (ℕ × Bar) → List Event → List (List (ℕ × Bar))
 endedTerms h m last bars [] = []
 endedTerms h m last bars (Minute s b ∷ es) =
-    cond (goesOn h m last s) (endedTerms h m (At s) (bars ++ (b ∷ [])) es) (termIn bars ++ endedTerms h m (At s) (b ∷ []) es)
+    cond (inTermOf h m last s) (endedTerms h m (At s) (bars ++ ((s, b) ∷ [])) es) (termIn bars ++ endedTerms h m (At s) ((s, b) ∷ []) es)
 endedTerms h m last bars (Close ∷ es) = termIn bars ++ endedTerms h m last [] es
 
 -- and the bars of the term that is left open
-unfoldable pub openTerm : Hours → ℕ → LastStamp → List Bar → List Event → List Bar
+unfoldable pub openTerm : Hours → ℕ → LastStamp → List (ℕ × Bar) → List Event → List (ℕ × Bar)
 openTerm h m last bars [] = bars
-openTerm h m last bars (Minute s b ∷ es) = openTerm h m (At s) (cond (goesOn h m last s) (bars ++ (b ∷ [])) (b ∷ [])) es
+openTerm h m last bars (Minute s b ∷ es) = openTerm h m (At s) (cond (inTermOf h m last s) (bars ++ ((s, b) ∷ [])) ((s, b) ∷ [])) es
 openTerm h m last bars (Close ∷ es) = openTerm h m last [] es
 
-abbrev pub openOf : List Bar → OpenBar
+abbrev pub openOf : List (ℕ × Bar) → OpenBar
 openOf [] = Nothing
-openOf (b ∷ bars) = Begun (termBar (b ∷ bars))
+openOf (x ∷ xs) = Begun (termBar (x ∷ xs))
 
--- for every list of events: each ended term bar and the open one is the bar of its term's bars
+-- the stamps of bars lie in one and the same term
+abbrev pub OneTerm : Hours → ℕ → List (ℕ × Bar) → Type 0
+OneTerm h m bars = (x y : ℕ × Bar) → List·Memᴰ x bars → List·Memᴰ y bars → termOf h m (x .0) ≡ termOf h m (y .0)
+
+-- for every list of events: each ended term bar and the open one is the bar of its term's bars, which lie in one term
 pub record TermBars : Type 0 where
   pub ended : (h : Hours) (m : ℕ) (es : List Event) → endedOf h m nothingYet es ≡ map termBar (endedTerms h m Never [] es)
   pub left : (h : Hours) (m : ℕ) (es : List Event) → carriedOf h m nothingYet es .pending ≡ openOf (openTerm h m Never [] es)
+  pub one-term : (h : Hours) (m : ℕ) (es : List Event) (bars : List (ℕ × Bar)) → List·Memᴰ bars (openTerm h m Never [] es ∷ endedTerms h m Never [] es) → OneTerm h m bars

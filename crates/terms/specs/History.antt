@@ -1,10 +1,11 @@
 -- 02, P6: what every list of calls leaves. The first part builds one plain list of events from what the accepted calls were lent; the second follows
 -- the calls by the definitions that the contracts cite; the third says how the two agree.
-use Prim.Native.Nat.{ℕ, _*_, _≤_}
+use Prim.Native.Nat.{ℕ, _*_, _≤_, _<_}
 use mathlib.Core.Path.{_≡_}
+use mathlib.Core.Logic.{_⊎_}
 use mathlib.Core.Bool.{Bool, true, _&&_}
 use mathlib.Core.List.{List, [], _∷_, _++_}
-use lib.ListN.{length, take}
+use lib.ListN.{length, getD, take}
 use lib.Ieee.{Float}
 use Rattle.measures.specs.Bar.{Bar, barsOf}
 use Rattle.recognisers.specs.Threshold.{Thresholds, validOf}
@@ -15,12 +16,13 @@ use Rattle.recognisers.specs.Refusal.{leaves}
 use Rattle.bar_box.specs.Calls.{after, each, joined}
 use Rattle.bar_box.specs.History.{NoBars, oneFeed, fed, rowsIn, Holds as BoxHolds}
 use Rattle.trading_hours.specs.declared.hours.Hours.{Hours}
-use Rattle.trading_hours.specs.Hours.{mostWindows, windowsOf, validHours, termLength}
+use Rattle.trading_hours.specs.Hours.{mostWindows, windowsOf, validHours, inHours, termOf, termLength}
+use Rattle.trading_hours.specs.TermRule.{Before}
 use Rattle.terms.specs.declared.events.LastStamp.{LastStamp}
 use Rattle.terms.specs.declared.events.LastStamp.the-variants.{Never}
 use Rattle.terms.specs.declared.layers.Layer.{Layer}
 use Rattle.terms.specs.declared.layers.Taken.{Taken}
-use Rattle.terms.specs.Events.{Event, Close, nothingYet, endedOf, carriedOf, lastOf, minutesOf}
+use Rattle.terms.specs.Events.{Event, Close, nothingYet, endedOf, carriedOf, lastOf, stampsIn, minutesOf}
 use Rattle.terms.specs.Layer.{validLayer, runTried, closeTried, madeOf, endedIn, ranOf, ranSheet, closedOf, closedSheet}
 
 -- what a call is lent: a run prices, one stamp a bar, and a sheet; a close a sheet
@@ -28,9 +30,9 @@ pub data Call : Type 0 where
   Run : List Float → List ℕ → List ℕ → Call
   Shut : List ℕ → Call
 
-abbrev pub sheetIn : Call → List ℕ
-sheetIn (Run prices stamps sheet) = sheet
-sheetIn (Shut sheet) = sheet
+abbrev pub lentSheet : Call → List ℕ
+lentSheet (Run prices stamps sheet) = sheet
+lentSheet (Shut sheet) = sheet
 
 -- ---- the account: one list of events
 
@@ -93,12 +95,24 @@ rowsOfCall l x = take (rowBytes * called l x .rows) (sheetAfter l x)
 abbrev pub joinedRows : Layer → List Call → List ℕ
 joinedRows = joined layerLeft rowsOfCall
 
+-- ---- stamps that 10 and 11 let pass: each lies in the hours, and of any two the later is above the earlier, in the same term or in one that comes after
+
+pub record Rising (h : Hours) (m : ℕ) (stamps : List ℕ) : Type 0 where
+  pub inside : (i : ℕ) → i < length stamps → inHours h (getD stamps i 0) ≡ true
+  pub above : (i j : ℕ) → i < j → j < length stamps → getD stamps i 0 < getD stamps j 0
+  pub later : (i j : ℕ) → i < j → j < length stamps
+      → let a = termOf h m (getD stamps i 0) in
+      let b = termOf h m (getD stamps j 0) in
+      (a ≡ b) ⊎ Before a b
+
 -- ---- what holds after a list of calls xs to a layer l to which nothing came; es is the one list of events, ended are the term bars that end in
 -- it, and sheet is one that is long enough for their rows
 
 pub record Holds (l : Layer) (xs : List Call) (es : List Event) (ended : List Bar) (sheet : List ℕ) : Type 0 where
   -- (a) each call is refused exactly as the events, their last stamp and the count of their ended term bars say
   pub refusals : verdictsOf l xs ≡ verdictsOn (l .inner .thresholds) (l .hours) (l .minutes) [] xs
+  -- so its stamps rise, and a term ends in it "when a bar of a later one arrives"
+  pub rising : Rising (l .hours) (l .minutes) (stampsIn es)
   -- (b) "the ended term bars are those of all bars and closes of the accepted ones in one list"
   pub same-ended : joinedEnded l xs ≡ ended
   -- (c) "the rows and box are those of one feed of the ended term bars to its fresh box", which is accepted unless the thresholds are outside
@@ -130,7 +144,7 @@ pub record TermCalls : Type 0 where
       → eventsAfter (l .inner .thresholds) (l .hours) (l .minutes) [] xs ≡ eventsAfter (l .inner .thresholds) (l .hours) (l .minutes) [] ys
       → (layerAfter l xs ≡ layerAfter l ys) × (joinedRows l xs ≡ joinedRows l ys)
   -- the box's own feed of the term bars that end in a call is never refused where the call isn't, whatever layer is handed in
-  pub box-accepts : (l : Layer) (x : Call) → called l x .verdict ≡ Accepted → fed (l .inner) (oneFeed (endedIn l (eventsIn x)) (sheetIn x)) .verdict ≡ Accepted
+  pub box-accepts : (l : Layer) (x : Call) → called l x .verdict ≡ Accepted → fed (l .inner) (oneFeed (endedIn l (eventsIn x)) (lentSheet x)) .verdict ≡ Accepted
   -- what making gives is such a layer, with thresholds inside their limits and hours, term length and carried bar that keep the rules; it is the
   -- same for hours with the same windows in use
   pub made : (t : Thresholds) (h : Hours) (m : ℕ) → NoneYet (madeOf t h m .after)

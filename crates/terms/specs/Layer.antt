@@ -36,10 +36,6 @@ freshLayer t h m = layerWith h m nothingYet (freshBox t)
 unfoldable pub wholeDay : Hours
 wholeDay = hoursWith (windowFrom 0 dayMinutes ∷ noWindow ∷ noWindow ∷ noWindow ∷ []) 1
 
--- the layer of a refused making
-abbrev pub standardLayer : Layer
-standardLayer = freshLayer standardSet wholeDay 5
-
 -- ---- refusals
 
 -- a kept stamp lies in the hours; an open term bar has a stamp
@@ -93,7 +89,7 @@ taken v rows l = record { after = l; rows = rows; verdict = v }
 -- "A refused making returns a fresh layer with the standard set, one window 0 to 1,440 and m = 5"
 abbrev pub madeBy : Verdict → Thresholds → Hours → ℕ → Layer
 madeBy Accepted t h m = freshLayer t (withZeros h) m
-madeBy (Denied r) t h m = standardLayer
+madeBy (Denied r) t h m = freshLayer standardSet wholeDay 5
 
 unfoldable pub madeOf : Thresholds → Hours → ℕ → Taken
 madeOf t h m = let v = makeVerdict t h m in taken v 0 (madeBy v t h m)

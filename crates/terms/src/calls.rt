@@ -4,13 +4,16 @@ ghost use Prim.Native.Nat.{_+_, _*_, _≤_};
 ghost use lib.ListN.{length, take};
 ghost use Rattle.measures.specs.Bar.{barsOf, overlay};
 ghost use Rattle.recognisers.specs.declared.call.Verdict.the-variants.{Accepted};
+ghost use Rattle.recognisers.specs.Number.{rowBytes};
+ghost use Rattle.recognisers.specs.Refusal.{verdictNumber};
 ghost use Rattle.bar_box.specs.Sheet.{rowsOf};
 ghost use Rattle.bar_box.specs.Box.{kept, takenIn, feedVerdict};
 ghost use Rattle.terms.specs.Events.{endedOf, minutesOf};
-ghost use Rattle.terms.specs.Layer.{madeOf, ranOf, ranSheet, closedOf, closedSheet};
+ghost use Rattle.terms.specs.Layer.{makeVerdict, runVerdictOf, closeVerdictOf, madeOf, ranOf, ranSheet, closedOf, closedSheet};
 ghost use Rattle.terms.specs.Passing.{Ready, progressOf};
 use crate::events;
 use crate::events::Carried;
+use crate::events::ROOM_BARS;
 use crate::layers;
 use crate::layers::Layer;
 use crate::layers::Taken;
@@ -22,8 +25,8 @@ use trading_hours::Hours;
 
 // Feeds the first n bars of a run of prices; their rows go to a row of the sheet and those after it.
 fn feed_front(b: BarBox, run: &[f64], n: usize, sheet: &mut [u8], row: usize) -> BarBox
-    requires { ⌜ (1 ≤ n → feedVerdict (b .thresholds) (b .count) (4 * n) (36 * n) ≡ Accepted) × ((4 * n ≤ length (now run)) × (36 * (row + n) ≤ length (now sheet))) ⌝ }
-    ensures { λ r. ⌜ (r ≡ takenIn b (barsOf (take (4 * n) (now (run .entry))))) × (now (sheet .exit) ≡ overlay (now (sheet .entry)) (36 * row) (rowsOf (b .thresholds) (b .count) (kept b) (barsOf (take (4 * n) (now (run .entry)))))) ⌝ }
+    requires { ⌜ (1 ≤ n → feedVerdict (b .thresholds) (b .count) (4 * n) (rowBytes * n) ≡ Accepted) × ((4 * n ≤ length (now run)) × (rowBytes * (row + n) ≤ length (now sheet))) ⌝ }
+    ensures { λ r. ⌜ (r ≡ takenIn b (barsOf (take (4 * n) (now (run .entry))))) × (now (sheet .exit) ≡ overlay (now (sheet .entry)) (rowBytes * row) (rowsOf (b .thresholds) (b .count) (kept b) (barsOf (take (4 * n) (now (run .entry)))))) ⌝ }
 {
     if n == 0 {
         return b;
@@ -41,8 +44,8 @@ pub struct Progress {
     pub rows: usize,
 }
 
-// Takes the bars of a run in: the term bars that end are fed to the box, up to 32 at a time, since each feed copies it; their rows stand one
-// after the other.
+// Takes the bars of a run in: the term bars that end are fed to the box, as many at a time as there is room for; their rows stand one after
+// the other.
 fn take_bars(
     b: BarBox,
     h: Hours,
@@ -56,8 +59,7 @@ fn take_bars(
     ensures { λ r. ⌜ (r ≡ progressOf h m c b (minutesOf (now (stamps .entry)) (barsOf (now (prices .entry)))))
         × (now (sheet .exit) ≡ overlay (now (sheet .entry)) 0 (rowsOf (b .thresholds) (b .count) (kept b) (endedOf h m c (minutesOf (now (stamps .entry)) (barsOf (now (prices .entry))))))) ⌝ }
 {
-    // room for 32 bars
-    let mut run = [0.0; 128];
+    let mut run = [0.0; 4 * ROOM_BARS];
     let n = stamps.len();
     let mut carried = c;
     let mut inner = b;
@@ -81,8 +83,9 @@ fn take_bars(
 // Takes a run of bars in, one stamp a bar, and writes a row for each term bar that ended, or refuses and leaves layer and sheet as they
 // were: a refused run takes no bar. Where no term bar ends nothing is fed.
 pub fn run(l: Layer, prices: &[f64], stamps: &[u32], sheet: &mut [u8]) -> Taken
-    ensures { λ r. ⌜ (r ≡ ranOf l (now (prices .entry)) (now (stamps .entry)) (length (now (sheet .entry))))
-        × (now (sheet .exit) ≡ ranSheet l (now (prices .entry)) (now (stamps .entry)) (now (sheet .entry))) ⌝ }
+    ensures answer { λ r. ⌜ r ≡ ranOf l (now (prices .entry)) (now (stamps .entry)) (length (now (sheet .entry))) ⌝ }
+    ensures sheet { λ _. ⌜ now (sheet .exit) ≡ ranSheet l (now (prices .entry)) (now (stamps .entry)) (now (sheet .entry)) ⌝ }
+    ensures number { λ r. ⌜ verdictNumber (r .verdict) ≡ verdictNumber (runVerdictOf l (length (now (prices .entry))) (now (stamps .entry)) (length (now (sheet .entry)))) ⌝ }
 {
     let h = l.hours;
     let m = l.minutes;
@@ -130,7 +133,9 @@ pub fn run(l: Layer, prices: &[f64], stamps: &[u32], sheet: &mut [u8]) -> Taken
 // Ends the open term, if there is one, and writes its bar's row, or refuses and leaves layer and sheet as they were: a refused close ends no
 // term bar.
 pub fn close(l: Layer, sheet: &mut [u8]) -> Taken
-    ensures { λ r. ⌜ (r ≡ closedOf l (length (now (sheet .entry)))) × (now (sheet .exit) ≡ closedSheet l (now (sheet .entry))) ⌝ }
+    ensures answer { λ r. ⌜ r ≡ closedOf l (length (now (sheet .entry))) ⌝ }
+    ensures sheet { λ _. ⌜ now (sheet .exit) ≡ closedSheet l (now (sheet .entry)) ⌝ }
+    ensures number { λ r. ⌜ verdictNumber (r .verdict) ≡ verdictNumber (closeVerdictOf l (length (now (sheet .entry)))) ⌝ }
 {
     let c = l.carried;
     let h = l.hours;
@@ -159,7 +164,8 @@ pub fn close(l: Layer, sheet: &mut [u8]) -> Taken
 // A fresh layer with these thresholds, hours and term length, and zeros in the unused places of the hours; if they are refused, one with
 // the standard set, the whole day and 5.
 pub fn make(t: Thresholds, h: Hours, m: u32) -> Taken
-    ensures { λ r. ⌜ r ≡ madeOf t h m ⌝ }
+    ensures answer { λ r. ⌜ r ≡ madeOf t h m ⌝ }
+    ensures number { λ r. ⌜ verdictNumber (r .verdict) ≡ verdictNumber (makeVerdict t h m) ⌝ }
 {
     let verdict = verdicts::make_verdict(t, h, m);
     let made = bar_box::make(layers::thresholds_by(verdict, t));

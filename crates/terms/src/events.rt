@@ -8,15 +8,18 @@ ghost use Rattle.recognisers.specs.Refusal.{leaves};
 ghost use Rattle.trading_hours.specs.Hours.{inHours};
 ghost use Rattle.trading_hours.specs.TermRule.{endOf};
 ghost use Rattle.terms.specs.declared.events.OpenBar.the-variants.{Nothing};
-ghost use Rattle.terms.specs.Events.{carriedWith, joinedBar, stepBy, stepOf, barsIn, minutesOf};
+ghost use Rattle.terms.specs.Events.{carriedWith, joinedBar, stepBy, minuteStep, openBars, minutesOf};
 ghost use Rattle.terms.specs.Layer.{above};
-ghost use Rattle.terms.specs.Passing.{endAfter, EndKnown, Ready, FilledBy, someIn, JoinedBy};
+ghost use Rattle.terms.specs.Passing.{roomBars, endAfter, EndKnown, Ready, FilledBy, someIn, JoinedBy};
 use measures::Bar;
 use measures::max;
 use measures::min;
 use recognisers::call::Verdict;
 use trading_hours::Hours;
 use trading_hours::hours;
+
+// How many term bars are fed to the box at a time, since each feed copies it.
+pub(crate) const ROOM_BARS: usize = 32;
 
 // The stamp of the last bar taken in.
 pub enum LastStamp {
@@ -123,7 +126,7 @@ fn step_by(c: Carried, stamp: u32, b: Bar, same: bool) -> Step
 // A bar that comes after what is carried, where the end of the last stamp's term is known.
 pub(crate) fn step_on(h: Hours, m: u32, c: Carried, end: usize, stamp: u32, b: Bar) -> Step
     requires { ⌜ (EndKnown h m (c .last) end) × ((above (c .last) stamp ≡ true) × (inHours h stamp ≡ true)) ⌝ }
-    ensures { λ r. ⌜ r ≡ stepOf h m c stamp b ⌝ }
+    ensures { λ r. ⌜ r ≡ minuteStep h m c stamp b ⌝ }
 {
     step_by(c, stamp, b, (stamp as usize) < end)
 }
@@ -131,16 +134,12 @@ pub(crate) fn step_on(h: Hours, m: u32, c: Carried, end: usize, stamp: u32, b: B
 // The prices of an ended term bar go to a place of a run; the answer is how many bars.
 pub(crate) fn put_ended(ended: OpenBar, run: &mut [f64], place: usize) -> usize
     requires { ⌜ 4 * (place + 1) ≤ length (now run) ⌝ }
-    ensures { λ r. ⌜ (r ≡ length (barsIn ended)) × (now (run .exit) ≡ overlay (now (run .entry)) (4 * place) (pricesOf (barsIn ended))) ⌝ }
+    ensures { λ r. ⌜ (r ≡ length (openBars ended)) × (now (run .exit) ≡ overlay (now (run .entry)) (4 * place) (pricesOf (openBars ended))) ⌝ }
 {
     match ended {
         OpenBar::Nothing => 0,
         OpenBar::Begun(b) => {
-            let at = 4 * place;
-            run[at] = b.open;
-            run[at + 1] = b.close;
-            run[at + 2] = b.high;
-            run[at + 3] = b.low;
+            measures::put_bar(b, run, place);
             1
         }
     }
@@ -225,7 +224,7 @@ pub struct Filled {
     pub carried: Carried,
 }
 
-// Passes bars from one on until 32 term bars ended or no bar is left; the prices of the ended ones go to the front of a run.
+// Passes bars from one on until there is no room for another ended term bar or no bar is left; the prices of the ended ones go to the front of a run.
 pub(crate) fn fill(
     h: Hours,
     m: u32,
@@ -235,7 +234,7 @@ pub(crate) fn fill(
     from: usize,
     run: &mut [f64],
 ) -> Filled
-    requires { ⌜ (Ready h m c (drop from (now stamps))) × (from ≤ length (now stamps)) × (length (now stamps) ≡ length (barsOf (now prices))) × (128 ≤ length (now run)) ⌝ }
+    requires { ⌜ (Ready h m c (drop from (now stamps))) × (from ≤ length (now stamps)) × (length (now stamps) ≡ length (barsOf (now prices))) × (4 * roomBars ≤ length (now run)) ⌝ }
     ensures { λ r. ⌜ FilledBy h m c (drop from (minutesOf (now (stamps .entry)) (barsOf (now (prices .entry))))) (now (run .exit)) r ⌝ }
 {
     let n = stamps.len() - from;
@@ -244,7 +243,7 @@ pub(crate) fn fill(
     let mut end = end_after(h, m, before);
     let mut k = 0usize;
     let mut count = 0usize;
-    while (k < n) & (count < 32) {
+    while (k < n) & (count < ROOM_BARS) {
         let stamp = stamps[from + k];
         let bar = measures::bar_or_none(prices, from + k);
         let last = carried.last;

@@ -89,7 +89,7 @@ place-only at (w ∷ ws) (suc p) x e k in-p =
 
 -- ---- terms
 
-same-eq : (x y : Term) → sameTerm x y ≡ true → x ≡ y
+pub same-eq : (x y : Term) → sameTerm x y ≡ true → x ≡ y
 unfolding sameTerm
 same-eq x y e =
     let outer = both (eqb (x .day) (y .day) && eqb (x .window) (y .window)) (eqb (x .number) (y .number)) e in
@@ -98,7 +98,7 @@ same-eq x y e =
     rw (eqb-true (x .day) (y .day) (inner .0), eqb-true (x .window) (y .window) (inner .1), eqb-true (x .number) (y .number) (outer .1)) in
     whole
 
-same-self : (x y : Term) → x ≡ y → sameTerm x y ≡ true
+pub same-self : (x y : Term) → x ≡ y → sameTerm x y ≡ true
 unfolding sameTerm
 same-self x y e = rw e (simp (eq-eqb (y .day) (y .day) refl, eq-eqb (y .window) (y .window) refl, eq-eqb (y .number) (y .number) refl))
 

@@ -37,7 +37,7 @@ returns c =
     let read = made .before in
     let set = read .before in
     let args = set .before .before .before .before .before .before .before .args in
-    let is = rw (set .new .ensures, read .hours-of .ensures) at (made .make .ensures) in
+    let is = rw (set .new .ensures, read .hours-of .ensures) at (made .make .ensures .0) in
     let denied = sym (ap (λ (t : Taken). t .verdict) is) ∙ told .verdict .given .1 in
     let all = making-refused _ (args .minutes) (args .hours .now) (args .prices .now) (args .stamps .now) (args .sizes .now) (args .sheet .now) (args .answers .now) _ denied in
     (c .refusal-number .ensures ∙ sym (all .0), sym (all .1), sym (all .2))
@@ -56,7 +56,7 @@ returns-2 c =
     let read = made .before in
     let set = read .before in
     let args = set .before .before .before .before .before .before .before .args in
-    let is = rw (set .new .ensures, read .hours-of .ensures) at (made .make .ensures) in
+    let is = rw (set .new .ensures, read .hours-of .ensures) at (made .make .ensures .0) in
     let accepted = sym (ap (λ (t : Taken). t .verdict) is) ∙ told .enum-told .given .1 in
     let all = making-accepted _ (args .minutes) (args .hours .now) (args .prices .now) (args .stamps .now) (args .sizes .now) (args .sheet .now) (args .answers .now) accepted in
     let layer = ap (λ (t : Taken). t .after) is in

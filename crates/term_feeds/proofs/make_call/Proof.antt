@@ -34,7 +34,7 @@ returns c =
     let call = call-close (args .size) (drop (args .p) (args .prices .now)) (drop (args .s) (args .stamps .now)) (drop (args .at) sheet) (made .before .before .if1 .taken) in
     let out = made .close .ensures in
     let same = take-all (length sheet - args .at) (drop (args .at) sheet) (omega (arith, length-drop (args .at) sheet)) in
-    rw call (out .0 ∙ rw same, rw (put-rest sheet (args .at)) (rw (out .1, same)))
+    rw call (out .0 ∙ rw same, rw (put-rest sheet (args .at)) (rw (out .1 .0, same)))
 
 mul-least : tie.Need-mul-least
 mul-least c = search needs
@@ -109,7 +109,7 @@ returns-2 c =
     let stamps-are = part-is ss (args .s) (args .size) (pre .1) in
     let ends = p-end .least .ensures in
     let ends-2 = s-end .least2 .ensures in
-    rw call (out .0 ∙ rw (ends, ends-2, prices-are, stamps-are, same), rw (put-rest sheet (args .at)) (rw (out .1, ends, ends-2, prices-are, stamps-are, same)))
+    rw call (out .0 ∙ rw (ends, ends-2, prices-are, stamps-are, same), rw (put-rest sheet (args .at)) (rw (out .1 .0, ends, ends-2, prices-are, stamps-are, same)))
 
 pub make-call-spec : {M : Type 1} → statement M
 make-call-spec =

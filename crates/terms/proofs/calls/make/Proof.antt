@@ -1,5 +1,6 @@
 -- By the verdict; the thresholds that are chosen are inside their limits. Assumes nothing.
 use mathlib.Core.Path.{ap, sym}
+use Rattle.recognisers.specs.Refusal.{verdictNumber}
 use Rattle.bar_box.specs.declared.boxes.Outcome.{Outcome}
 use Rattle.terms.proofs.TakeLaws.{made-is}
 use borrow.Author.Needs.{needs}
@@ -33,8 +34,10 @@ returns c =
     let call = chosen .before in
     let args = call .before .args in
     let box = ap (λ (o : Outcome). o .after) (made .make .ensures) in
-    rw (c .fresh .ensures, day .hours-by .ensures, length .minutes-by .ensures, box, chosen .thresholds-by .ensures)
-    (made-is (args .t) (args .h) (args .m) (call .make-verdict .result) (sym (call .make-verdict .ensures)))
+    let told = call .make-verdict .ensures in (
+      rw (c .fresh .ensures, day .hours-by .ensures, length .minutes-by .ensures, box, chosen .thresholds-by .ensures) (made-is (args .t) (args .h) (args .m) _ (sym told)),
+      ap verdictNumber told,
+    )
 
 pub make-spec : {M : Type 1} → statement M
 make-spec =

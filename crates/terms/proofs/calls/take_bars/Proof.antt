@@ -1,5 +1,5 @@
 -- The loop's invariant: the term bars that ended in the bars passed are taken in, and their rows stand on the sheet. Assumes nothing.
-use Prim.Native.Nat.{_-_, _≤_}
+use Prim.Native.Nat.{_-_, _*_, _≤_}
 use mathlib.Core.Path.{_≡_, refl, ap, sym, _∙_}
 use native.Mathlib.Omega.{arith}
 use borrow.Author.Needs.{needs}
@@ -12,15 +12,17 @@ use Rattle.measures.proofs.Overlay.{overlay-none}
 use Rattle.bar_box.proofs.BoxLaws.{taken-none, taken-append}
 use Rattle.measures.proofs.PriceLaws.{bars-prices}
 use Rattle.bar_box.proofs.PartLaws.{rows-both}
+use Rattle.recognisers.specs.Number.{places}
+use Rattle.terms.specs.Passing.{roomBars}
 use Rattle.terms.specs.Events.{endedOf, carriedOf, minutesOf}
 use Rattle.terms.proofs.EventLaws.{length-minutes, ended-more, carried-more}
-use Rattle.terms.proofs.PartLaws.{part-fits}
+use Rattle.terms.proofs.PartLaws.{PartFits, part-fits}
 use Rattle.terms.proofs.PassingLaws.{ready-after}
 use Rattle.terms.proofs.calls.take_bars.Statement.{statement}
 use Rattle.terms.proofs.calls.take_bars.Tie as tie
 
 abbrev Inv-loop : tie.InvT-loop
-Inv-loop h m prices stamps sheet₀ run₀ n carried₀ inner₀ rows₀ done₀ sheet run carried inner rows done = let es = minutesOf stamps (barsOf prices) in (done ≤ n) × (length sheet ≡ length sheet₀) × (length run ≡ 128) × (carried ≡ carriedOf h m carried₀ (take done es)) × (inner ≡ takenIn inner₀ (endedOf h m carried₀ (take done es))) × (rows ≡ length (endedOf h m carried₀ (take done es))) × (sheet ≡ overlay sheet₀ 0 (rowsOf (inner₀ .thresholds) (inner₀ .count) (kept inner₀) (endedOf h m carried₀ (take done es))))
+Inv-loop h m prices stamps sheet₀ run₀ n carried₀ inner₀ rows₀ done₀ sheet run carried inner rows done = let es = minutesOf stamps (barsOf prices) in (done ≤ n) × (length sheet ≡ length sheet₀) × (length run ≡ 4 * roomBars) × (carried ≡ carriedOf h m carried₀ (take done es)) × (inner ≡ takenIn inner₀ (endedOf h m carried₀ (take done es))) × (rows ≡ length (endedOf h m carried₀ (take done es))) × (sheet ≡ overlay sheet₀ 0 (rowsOf (inner₀ .thresholds) (inner₀ .count) (kept inner₀) (endedOf h m carried₀ (take done es))))
 
 abbrev μ-loop : tie.MeasureT-loop
 μ-loop h m prices stamps sheet₀ run₀ n carried₀ inner₀ rows₀ done₀ sheet run carried inner rows done = n - done
@@ -30,7 +32,7 @@ unfolding endedOf carriedOf rowsOf
 loop-holds c =
     let start = c .before .before .before in
     let args = start .args in
-    let all : length (args .b .bars) ≡ 64 = simp length-map at (start .good .0 .1 .1 .1 .1 .0 .1 .0 .1) in
+    let all : length (args .b .bars) ≡ places = simp length-map at (start .good .0 .1 .1 .1 .1 .0 .1 .0 .1) in
     (search needs, refl, refl, refl, sym (taken-none (args .b) all), refl, sym (overlay-none (args .sheet .now) 0))
 
 slice-aggregate-fill : tie.Need-slice-aggregate-fill Inv-loop μ-loop
@@ -50,58 +52,36 @@ fill-requires c κs =
 slice-aggregate-feed-front : tie.Need-slice-aggregate-feed-front Inv-loop μ-loop
 slice-aggregate-feed-front c = search needs
 
+-- what is known of the part that was passed
+part : (c : tie.After-fill Inv-loop μ-loop) → let at = c .before .before .before .loop in
+    let args = c .before .before .before .before .before .before .before .args in
+    PartFits (args .b .thresholds) (args .b .count) (length (args .sheet .now)) (length (args .stamps .now)) (at .done) (length (endedOf (args .h) (args .m) (args .c) (take (at .done) (minutesOf (args .stamps .now) (barsOf (args .prices .now)))))) (c .fill .result)
+part c =
+    let inside = c .before .before in
+    let at = inside .before .loop in
+    let start = inside .before .before .before .before .before in
+    let args = start .args in
+    part-fits (args .h) (args .m) (args .c) (args .prices .now) (args .stamps .now) (start .pre .1) _ _ _ (start .pre .2) (at .done) (inside .loop-test .taken) _ (c .fill .result) (rw (at .inv .3) at (c .fill .ensures))
+
 feed-front-requires : tie.Need-feed-front-requires Inv-loop μ-loop
 feed-front-requires c κs =
     let filled = c .before .before .before in
-    let inside = filled .before .before in
-    let at-loop = inside .before in
-    let start = at-loop .before .before .before .before in
-    let args = start .args in
-    let pre = start .pre in
-    let inv = at-loop .loop .inv in
-    let by = rw (inv .3) at (filled .fill .ensures) in
-    let part = part-fits (args .h) (args .m) (args .c) (args .prices .now) (args .stamps .now) (pre .1) _ _ _ (pre .2) (at-loop .loop .done) (inside .loop-test .taken) _ (filled .fill .result) by in
+    let inv = filled .before .before .before .loop .inv in
+    let fit = part filled in
     let size = filled .fill .kept .1 .1 .1 .1 .1 .1 .0 in
-    (λ some. rw (inv .4) (part .accepted), (omega (arith, by .few), omega (arith, part .room)))
+    (λ some. rw (inv .4) (fit .accepted), (omega (arith, filled .fill .ensures .few), omega (arith, fit .room)))
 
 add-rows : tie.Need-add-rows Inv-loop μ-loop
 add-rows c =
     let filled = c .before .before .before .before .before .before .before .before in
-    let inside = filled .before .before in
-    let at-loop = inside .before in
-    let start = at-loop .before .before .before .before in
-    let args = start .args in
-    let pre = start .pre in
-    let inv = at-loop .loop .inv in
-    let by = rw (inv .3) at (filled .fill .ensures) in
-    let part = part-fits (args .h) (args .m) (args .c) (args .prices .now) (args .stamps .now) (pre .1) _ _ _ (pre .2) (at-loop .loop .done) (inside .loop-test .taken) _ (filled .fill .result) by in
-    omega (arith, part .few)
+    let inv = filled .before .before .before .loop .inv in
+    omega (arith, part filled .few)
 
 add-done : tie.Need-add-done Inv-loop μ-loop
-add-done c =
-    let filled = c .before .before .before .before .before .before .before .before .before in
-    let inside = filled .before .before in
-    let at-loop = inside .before in
-    let start = at-loop .before .before .before .before in
-    let args = start .args in
-    let pre = start .pre in
-    let inv = at-loop .loop .inv in
-    let by = rw (inv .3) at (filled .fill .ensures) in
-    let part = part-fits (args .h) (args .m) (args .c) (args .prices .now) (args .stamps .now) (pre .1) _ _ _ (pre .2) (at-loop .loop .done) (inside .loop-test .taken) _ (filled .fill .result) by in
-    omega (arith, part .within, part .most)
+add-done c = let fit = part (c .before .before .before .before .before .before .before .before .before) in omega (arith, fit .within, fit .most)
 
 loop-less : tie.Need-loop-less Inv-loop μ-loop
-loop-less c =
-    let filled = c .before .before .before .before .before .before .before .before .before in
-    let inside = filled .before .before in
-    let at-loop = inside .before in
-    let start = at-loop .before .before .before .before in
-    let args = start .args in
-    let pre = start .pre in
-    let inv = at-loop .loop .inv in
-    let by = rw (inv .3) at (filled .fill .ensures) in
-    let part = part-fits (args .h) (args .m) (args .c) (args .prices .now) (args .stamps .now) (pre .1) _ _ _ (pre .2) (at-loop .loop .done) (inside .loop-test .taken) _ (filled .fill .result) by in
-    omega (arith, part .within, part .some)
+loop-less c = let fit = part (c .before .before .before .before .before .before .before .before .before) in omega (arith, fit .within, fit .some)
 
 loop-again : tie.Need-loop-again Inv-loop μ-loop
 loop-again c =
@@ -113,7 +93,7 @@ loop-again c =
     let pre = start .pre in
     let inv = at-loop .loop .inv in
     let by = rw (inv .3) at (filled .fill .ensures) in
-    let part = part-fits (args .h) (args .m) (args .c) (args .prices .now) (args .stamps .now) (pre .1) _ _ _ (pre .2) (at-loop .loop .done) (inside .loop-test .taken) _ (filled .fill .result) by in
+    let fit = part filled in
     let passed = at-loop .loop .done in
     let es = minutesOf (args .stamps .now) (barsOf (args .prices .now)) in
     let f = filled .fill .result in
@@ -122,15 +102,15 @@ loop-again c =
     let both-are = ended-more (args .h) (args .m) (args .c) es passed (f .passed) in
     let fed = c .before .before .before .before .before in
     let b = args .b in
-    let all : length (b .bars) ≡ 64 = simp length-map at (start .good .0 .1 .1 .1 .1 .0 .1 .0 .1) in
+    let all : length (b .bars) ≡ places = simp length-map at (start .good .0 .1 .1 .1 .1 .0 .1 .0 .1) in
     let front = ap barsOf (by .prices) ∙ bars-prices new in (
-      omega (arith, part .within),
+      omega (arith, fit .within),
       fed .feed-front .kept .1 .1 .1 .0 ∙ inv .1,
       filled .fill .kept .1 .1 .1 .1 .1 .1 .0 ∙ inv .2,
       by .carried ∙ sym (carried-more (args .h) (args .m) (args .c) es passed (f .passed)),
       fed .feed-front .ensures .0 ∙ rw (front, inv .4, both-are) (taken-append b all old new),
       rw (both-are, length-append, by .count, inv .5),
-      fed .feed-front .ensures .1 ∙ rw (front, inv .4, inv .6, both-are) (rows-both b all old new (args .sheet .now) (at-loop .loop .rows) (inv .5) (omega (arith, part .room, by .count))),
+      fed .feed-front .ensures .1 ∙ rw (front, inv .4, inv .6, both-are) (rows-both b all old new (args .sheet .now) (at-loop .loop .rows) (inv .5) (omega (arith, fit .room, by .count))),
     )
 
 same-length : tie.Need-same-length Inv-loop μ-loop

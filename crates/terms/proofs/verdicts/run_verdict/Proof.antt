@@ -1,5 +1,5 @@
 -- A feed's tests, with 12 and 4's other one, and then the stamps. Assumes nothing.
-use mathlib.Core.Path.{_∙_, sym, refl}
+use mathlib.Core.Path.{_∙_, sym}
 use Rattle.terms.proofs.CallLaws.{run-checked, checked-layer}
 use Rattle.terms.proofs.PassingLaws.{layer-end}
 use borrow.Author.Needs.{needs}

@@ -1,13 +1,14 @@
 -- The loop's invariant: the verdict is that of the stamps that are left, and the end of the last one's term is known. Assumes nothing.
 use borrow.Author.Needs.{needs}
 use mathlib.Core.Path.{_≡_, refl, sym, _∙_}
-use Prim.Native.Nat.{_-_, _≤_, _<_}
+use mathlib.Core.Bool.{true}
+use Prim.Native.Nat.{_-_, _≤_}
 use borrow.Author.Tests.{not-true, not-false}
 use lib.ListN.{length, getD, drop}
 use Rattle.recognisers.specs.Refusal.{firstTrue}
-use Rattle.terms.specs.Layer.{stampsTried}
+use Rattle.terms.specs.Layer.{above, stampsTried}
 use Rattle.terms.specs.Passing.{EndKnown}
-use Rattle.terms.proofs.CallLaws.{stamps-late, stamps-outside, stamps-next, stamps-past}
+use Rattle.terms.proofs.StampLaws.{stamps-late, stamps-outside, stamps-next, stamps-past}
 use Rattle.terms.proofs.PassingLaws.{end-next}
 use Rattle.terms.proofs.verdicts.stamps_verdict.Statement.{statement}
 use Rattle.terms.proofs.verdicts.stamps_verdict.Tie as tie
@@ -36,60 +37,32 @@ is-above-requires c κs = search needs
 returns : tie.Need-returns Inv-loop μ-loop
 returns c =
     let asked = c .before in
-    let at-loop = asked .before .before .before in
-    let start = at-loop .before .before .before in
-    let ss = start .args .stamps .now in
-    let i = at-loop .loop .i in
-    let within : i < length ss = asked .before .before .loop-test .taken in
-    let inv = at-loop .loop .inv in
-    let h = start .args .h in
-    let last = at-loop .loop .last in
+    let inside = asked .before .before in
+    let at = inside .before .loop in
+    let args = inside .before .before .before .before .args in
     let late = sym (asked .is-above .ensures) ∙ not-true (asked .is-above .result) (c .if1 .taken) in
-    sym (inv .1 ∙ stamps-late h last ss i within late)
+    sym (at .inv .1 ∙ stamps-late (args .h) (at .last) (args .stamps .now) (at .i) (inside .loop-test .taken) late)
+
+-- past the first test the stamp is above the last one
+up : (c : tie.Else1 Inv-loop μ-loop) → let at = c .before .before .before .before .loop in
+    let args = c .before .before .before .before .before .before .before .args in
+    above (at .last) (getD (args .stamps .now) (at .i) 0) ≡ true
+up c = let asked = c .before in sym (asked .is-above .ensures) ∙ not-false (asked .is-above .result) (c .if1 .left)
 
 is-inside-requires : tie.Need-is-inside-requires Inv-loop μ-loop
-is-inside-requires c κs =
-    let asked = c .before in
-    let at-loop = asked .before .before .before in
-    let start = at-loop .before .before .before in
-    let ss = start .args .stamps .now in
-    let i = at-loop .loop .i in
-    let within : i < length ss = asked .before .before .loop-test .taken in
-    let inv = at-loop .loop .inv in
-    let h = start .args .h in
-    let last = at-loop .loop .last in
-    let up = sym (asked .is-above .ensures) ∙ not-false (asked .is-above .result) (c .if1 .left) in
-    (inv .2, up)
+is-inside-requires c κs = (c .before .before .before .before .loop .inv .2, up c)
 
 returns-2 : tie.Need-returns-2 Inv-loop μ-loop
 returns-2 c =
-    let asked = c .before .before .before in
-    let at-loop = asked .before .before .before in
-    let start = at-loop .before .before .before in
-    let ss = start .args .stamps .now in
-    let i = at-loop .loop .i in
-    let within : i < length ss = asked .before .before .loop-test .taken in
-    let inv = at-loop .loop .inv in
-    let h = start .args .h in
-    let last = at-loop .loop .last in
-    let up = sym (asked .is-above .ensures) ∙ not-false (asked .is-above .result) (c .before .before .if1 .left) in
-    let inside = c .before in
-    let out = sym (inside .is-inside .ensures) ∙ not-true (inside .is-inside .result) (c .if2 .taken) in
-    sym (inv .1 ∙ stamps-outside h last ss i within up out)
+    let asked = c .before in
+    let inside = asked .before .before .before .before in
+    let at = inside .before .loop in
+    let args = inside .before .before .before .before .args in
+    let out = sym (asked .is-inside .ensures) ∙ not-true (asked .is-inside .result) (c .if2 .taken) in
+    sym (at .inv .1 ∙ stamps-outside (args .h) (at .last) (args .stamps .now) (at .i) (inside .loop-test .taken) (up (asked .before)) out)
 
 next-end-requires : tie.Need-next-end-requires Inv-loop μ-loop
-next-end-requires c κs =
-    let asked = c .before .before .before in
-    let at-loop = asked .before .before .before in
-    let start = at-loop .before .before .before in
-    let ss = start .args .stamps .now in
-    let i = at-loop .loop .i in
-    let within : i < length ss = asked .before .before .loop-test .taken in
-    let inv = at-loop .loop .inv in
-    let h = start .args .h in
-    let last = at-loop .loop .last in
-    let up = sym (asked .is-above .ensures) ∙ not-false (asked .is-above .result) (c .before .before .if1 .left) in
-    (inv .2, up)
+next-end-requires c κs = let test = c .before .before in (test .before .before .before .before .loop .inv .2, up test)
 
 add-i : tie.Need-add-i Inv-loop μ-loop
 add-i c = search needs
@@ -99,19 +72,16 @@ loop-less c = search needs
 
 loop-again : tie.Need-loop-again Inv-loop μ-loop
 loop-again c =
-    let asked = c .before .before .before .before in
-    let at-loop = asked .before .before .before in
-    let start = at-loop .before .before .before in
-    let ss = start .args .stamps .now in
-    let i = at-loop .loop .i in
-    let within : i < length ss = asked .before .before .loop-test .taken in
-    let inv = at-loop .loop .inv in
-    let h = start .args .h in
-    let last = at-loop .loop .last in
-    let up = sym (asked .is-above .ensures) ∙ not-false (asked .is-above .result) (c .before .before .before .if1 .left) in
-    let inside = c .before .before in
-    let there = sym (inside .is-inside .ensures) ∙ not-false (inside .is-inside .result) (c .before .if2 .left) in
-    (search needs, inv .1 ∙ stamps-next h last ss i within up there, rw (c .next-end .ensures) (end-next h (start .args .m) (at-loop .loop .end) (getD ss i 0) last (inv .2) there))
+    let asked = c .before .before in
+    let inside = asked .before .before .before .before in
+    let at = inside .before .loop in
+    let args = inside .before .before .before .before .args in
+    let ss = args .stamps .now in
+    let there = sym (asked .is-inside .ensures) ∙ not-false (asked .is-inside .result) (c .before .if2 .left) in (
+      search needs,
+      at .inv .1 ∙ stamps-next (args .h) (at .last) ss (at .i) (inside .loop-test .taken) (up (asked .before)) there,
+      rw (c .next-end .ensures) (end-next (args .h) (args .m) (at .end) (getD ss (at .i) 0) (at .last) (at .inv .2) there),
+    )
 
 returns-3 : tie.Need-returns-3 Inv-loop μ-loop
 returns-3 c =
