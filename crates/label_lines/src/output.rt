@@ -7,13 +7,30 @@ ghost use lib.Dec.{eqb};
 ghost use lib.ListN.{length};
 ghost use Rattle.measures.specs.Bar.{overlay};
 ghost use Rattle.text.specs.LabelText.{bytesOf};
-ghost use Rattle.label_lines.specs.Output.{numeral, field, rowLine, rowLines, lineRoom, refusalPart, refusalLine, badPriceLine, countLine, lineIn};
+ghost use Rattle.label_lines.specs.Output.{numeral, field, rowLine, rowLines, lineRoom, goesOn, refusalPart, refusalLine, countLine, lineIn};
 use measures::least;
 use recognisers::Refusal;
 use recognisers::call::refusal_number;
 use text::label_text;
 use text::line_text::COMMA;
 use text::lines::LINE_FEED;
+
+// Whether a line was refused: by a refusal, or by 9 with the field's place.
+pub enum Stop {
+    Going,
+    By(Refusal),
+    Price(u8),
+}
+
+pub fn goes_on(stop: Stop) -> bool
+    ensures { λ r. ⌜ r ≡ goesOn stop ⌝ }
+{
+    match stop {
+        Stop::Going => true,
+        Stop::By(_) => false,
+        Stop::Price(_) => false,
+    }
+}
 
 // Bytes and the one that ends them.
 fn write_field(s: &[u8], end: u8, out: &mut [u8], at: usize) -> usize
@@ -98,20 +115,19 @@ fn write_part(ordinal: u64, why: Refusal, end: u8, out: &mut [u8], at: usize) ->
     write_number(refusal_number(why) as u64, end, out, b)
 }
 
-pub(crate) fn write_refusal(ordinal: u64, why: Refusal, out: &mut [u8], at: usize) -> usize
-    requires { ⌜ at + 50 ≤ length (now out) ⌝ }
-    ensures { λ r. ⌜ (r ≤ at + 50) × (r ≡ at + length (refusalLine ordinal why)) × (now (out .exit) ≡ overlay (now (out .entry)) at (refusalLine ordinal why)) ⌝ }
-{
-    write_part(ordinal, why, LINE_FEED, out, at)
-}
-
-// The refusal of a bad price, with its field's place.
-pub(crate) fn write_bad_price(ordinal: u64, place: u8, out: &mut [u8], at: usize) -> usize
+// The line of a refusal, if there is one.
+pub(crate) fn write_refusal(ordinal: u64, stop: Stop, out: &mut [u8], at: usize) -> usize
     requires { ⌜ at + 71 ≤ length (now out) ⌝ }
-    ensures { λ r. ⌜ (r ≤ at + 71) × (r ≡ at + length (badPriceLine ordinal place)) × (now (out .exit) ≡ overlay (now (out .entry)) at (badPriceLine ordinal place)) ⌝ }
+    ensures { λ r. ⌜ (r ≤ at + 71) × (r ≡ at + length (refusalLine ordinal stop)) × (now (out .exit) ≡ overlay (now (out .entry)) at (refusalLine ordinal stop)) ⌝ }
 {
-    let behind = write_part(ordinal, Refusal::BadPrice, COMMA, out, at);
-    write_number(place as u64, LINE_FEED, out, behind)
+    match stop {
+        Stop::Going => at,
+        Stop::By(why) => write_part(ordinal, why, LINE_FEED, out, at),
+        Stop::Price(place) => {
+            let behind = write_part(ordinal, Refusal::BadPrice, COMMA, out, at);
+            write_number(place as u64, LINE_FEED, out, behind)
+        }
+    }
 }
 
 // The line of a count: two numbers of at most 20 digits, a label of at most 15 bytes, and what ends each.
@@ -138,23 +154,12 @@ pub fn print_count(k: u64, code: u8, count: u64, out: &mut [u8], at: usize) -> u
     }
 }
 
-// The line of a refusal, at the front of 50 bytes or more.
-pub fn print_refusal(ordinal: u64, why: Refusal, out: &mut [u8]) -> usize
-    ensures { λ r. ⌜ (r ≤ length (now (out .entry))) × (r ≡ length (lineIn 50 (length (now (out .entry))) (refusalLine ordinal why))) × (now (out .exit) ≡ overlay (now (out .entry)) 0 (lineIn 50 (length (now (out .entry))) (refusalLine ordinal why))) ⌝ }
-{
-    if 50 <= out.len() {
-        write_refusal(ordinal, why, out, 0)
-    } else {
-        0
-    }
-}
-
-// The line of a bad price, at the front of 71 bytes or more.
-pub fn print_bad_price(ordinal: u64, place: u8, out: &mut [u8]) -> usize
-    ensures { λ r. ⌜ (r ≤ length (now (out .entry))) × (r ≡ length (lineIn 71 (length (now (out .entry))) (badPriceLine ordinal place))) × (now (out .exit) ≡ overlay (now (out .entry)) 0 (lineIn 71 (length (now (out .entry))) (badPriceLine ordinal place))) ⌝ }
+// The line of a refusal, at the front of 71 bytes or more.
+pub fn print_refusal(ordinal: u64, stop: Stop, out: &mut [u8]) -> usize
+    ensures { λ r. ⌜ (r ≤ length (now (out .entry))) × (r ≡ length (lineIn 71 (length (now (out .entry))) (refusalLine ordinal stop))) × (now (out .exit) ≡ overlay (now (out .entry)) 0 (lineIn 71 (length (now (out .entry))) (refusalLine ordinal stop))) ⌝ }
 {
     if 71 <= out.len() {
-        write_bad_price(ordinal, place, out, 0)
+        write_refusal(ordinal, stop, out, 0)
     } else {
         0
     }

@@ -7,14 +7,15 @@ ghost use lib.Dec.{leb};
 ghost use lib.ListN.{length, take};
 ghost use Rattle.measures.specs.Bar.{barsOf, overlay};
 ghost use Rattle.text.specs.Lines.{content, partialOf};
+ghost use Rattle.label_lines.specs.Output.{goesOn};
 ghost use Rattle.tally_lines.specs.Output.{tallyRoom};
-ghost use Rattle.tally_lines.specs.Session.{goesOn, stateOf, sessionOf, freshState, fedAll, settledBy, takenOf, printed, closed, endPrints};
+ghost use Rattle.tally_lines.specs.Session.{stateOf, sessionOf, freshState, fedAll, settledBy, stateAfter, printed, closed, endPrints};
 use crate::output;
 use crate::reading;
 use crate::reading::Gathered;
-use crate::reading::Stop;
 use bar_box::BarBox;
-use label_lines::output::print_bad_price;
+use label_lines::Stop;
+use label_lines::output::goes_on;
 use label_lines::output::print_refusal;
 use measures::least;
 use recognisers::Thresholds;
@@ -117,7 +118,7 @@ fn settle(fed: Tallied, got: Gathered) -> Session
 // Bytes up to a batch's end, or all of them.
 fn take_in(st: Session, chunk: &[u8]) -> Taken
     requires { ⌜ (goesOn (st .stop) ≡ true) × (1 ≤ length (now chunk)) ⌝ }
-    ensures { λ r. ⌜ (1 ≤ r .used) × (r .used ≤ length (now (chunk .entry))) × (r .session ≡ sessionOf (takenOf (stateOf st) (take (r .used) (now (chunk .entry))))) ⌝ }
+    ensures { λ r. ⌜ (1 ≤ r .used) × (r .used ≤ length (now (chunk .entry))) × (r .session ≡ sessionOf (stateAfter (stateOf st) (take (r .used) (now (chunk .entry))))) ⌝ }
 {
     let begun = st.line;
     let held = st.held;
@@ -136,7 +137,7 @@ fn take_in(st: Session, chunk: &[u8]) -> Taken
 
 // Bytes of input.
 pub fn absorb(st: Session, chunk: &[u8]) -> Session
-    ensures { λ r. ⌜ r ≡ sessionOf (takenOf (stateOf st) (now (chunk .entry))) ⌝ }
+    ensures { λ r. ⌜ r ≡ sessionOf (stateAfter (stateOf st) (now (chunk .entry))) ⌝ }
 {
     // the line anew, so that the session is one value also where no byte is used
     let begun = st.line;
@@ -151,13 +152,13 @@ pub fn absorb(st: Session, chunk: &[u8]) -> Session
         stop,
     };
     let mut used = 0usize;
-    let mut going = reading::goes_on(stop);
+    let mut going = goes_on(stop);
     while (used < chunk.len()) & going {
         let taken = take_in(session, &chunk[used..]);
         session = taken.session;
         used += taken.used;
         let now = session.stop;
-        going = reading::goes_on(now);
+        going = goes_on(now);
     }
     session
 }
@@ -184,13 +185,12 @@ fn print(st: Session, out: &mut [u8]) -> usize
     let held = st.held;
     let ordinal = held.count as u64 + 1;
     let stop = st.stop;
-    match stop {
-        Stop::Going => {
-            let tally = st.tally;
-            output::write_tally(tally, out)
-        }
-        Stop::By(why) => print_refusal(ordinal, why, out),
-        Stop::Price(place) => print_bad_price(ordinal, place, out),
+    let going = goes_on(stop);
+    if going {
+        let tally = st.tally;
+        output::write_tally(tally, out)
+    } else {
+        print_refusal(ordinal, stop, out)
     }
 }
 

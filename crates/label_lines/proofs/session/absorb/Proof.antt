@@ -13,7 +13,7 @@ use Rattle.text.specs.Lines.{content, keptLine, partialOf}
 use Rattle.text.proofs.LineLaws.{content-partial}
 use Rattle.text.proofs.PartLaws.{to-end}
 use Rattle.label_lines.specs.declared.session.Session.{Session}
-use Rattle.label_lines.specs.Session.{State, stateOf, sessionOf, leaves, prints, usedOf}
+use Rattle.label_lines.specs.Session.{State, stateOf, sessionOf, stateAfter, prints, usedOf}
 use Rattle.label_lines.proofs.SessionLaws.{goes-on, rest-stays, used-all, turn-leaves, turn-prints, turn-used, state-session, session-state}
 use Rattle.label_lines.proofs.session.absorb.Statement.{statement}
 use Rattle.label_lines.proofs.session.absorb.Tie as tie
@@ -23,7 +23,7 @@ Inv-loop chunk out₀ room limit session₀ used₀ written₀ out session used 
     (used ≤ length chunk)
     × (written ≤ length out₀)
     × (length out ≡ length out₀)
-    × (session ≡ sessionOf (leaves (stateOf session₀) (take used chunk)))
+    × (session ≡ sessionOf (stateAfter (stateOf session₀) (take used chunk)))
     × (written ≡ length (prints (stateOf session₀) (take used chunk)))
     × (out ≡ overlay out₀ 0 (prints (stateOf session₀) (take used chunk)))
     × (usedOf (length out₀) (stateOf session₀) (take used chunk) ≡ used)
@@ -44,7 +44,7 @@ extend-requires : tie.Need-extend-requires Inv-loop μ-loop
 extend-requires c κs = search needs
 
 loop-holds : tie.Need-loop-holds Inv-loop μ-loop
-unfolding leaves prints usedOf
+unfolding stateAfter prints usedOf
 loop-holds c =
     let args = c .before .before .before .before .before .before .before .args in
     let st : Session = record { line = c .before .extend .result; held = args .st .held; stopped = args .st .stopped } in
@@ -96,7 +96,7 @@ loop-again c =
     let sure = goes-on (loop .used) (length chunk) (least .least .result) (loop .written) _ (loop .session .stopped) (c .before .before .before .before .before .before .before .if1 .taken) in
     let turn = c .before .before .before .before .advance in
     let did = rw (to-end chunk (loop .used)) at (turn .ensures) in
-    let here : stateOf (loop .session) ≡ leaves s (take (loop .used) chunk) = rw (inv .3) (state-session _) in
+    let here : stateOf (loop .session) ≡ stateAfter s (take (loop .used) chunk) = rw (inv .3) (state-session _) in
     let leaves-on = turn-leaves s (stateOf (loop .session)) chunk (loop .used) (turn .result .used) here in
     let prints-on = turn-prints s (stateOf (loop .session)) chunk (loop .used) (turn .result .used) here in
     let before = prints s (take (loop .used) chunk) in
@@ -127,7 +127,7 @@ returns c =
     let took : extended .result ≡ partialOf (keptLine (s .line ++ [])) = extended .ensures in
     let kept : content (extended .result) ≡ s .line = rw (took, content-partial (keptLine (s .line ++ [])), append-nil) (take-all 81 (s .line) short) in
     let inv = rw kept at (loop .inv) in
-    let here : stateOf (loop .session) ≡ leaves s (take (loop .used) chunk) = rw (inv .3) (state-session _) in
+    let here : stateOf (loop .session) ≡ stateAfter s (take (loop .used) chunk) = rw (inv .3) (state-session _) in
     let none = rest-stays (stateOf (loop .session)) chunk (loop .used) (least .least .result) (loop .written) len (least .least .ensures) (inv .1) (c .if1 .left) in
     let all : usedOf len s chunk ≡ loop .used = used-all s chunk (loop .used) len (inv .0) (inv .6) (rw (here, inv .4) at none) in
     rw all ((rw (inv .3, inv .4), inv .1), inv .5)

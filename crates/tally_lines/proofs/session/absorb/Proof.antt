@@ -13,14 +13,15 @@ use Rattle.text.proofs.LineLaws.{content-partial}
 use Rattle.text.proofs.PartLaws.{to-end}
 use Rattle.text.proofs.RunLaws.{both}
 use Rattle.tally_lines.specs.declared.session.Session.{Session}
-use Rattle.tally_lines.specs.Session.{State, goesOn, stateOf, sessionOf, takenOf}
+use Rattle.label_lines.specs.Output.{goesOn}
+use Rattle.tally_lines.specs.Session.{State, stateOf, sessionOf, stateAfter}
 use Rattle.tally_lines.proofs.SessionLaws.{taken-append, state-session, session-stays, rest-left}
 use Rattle.tally_lines.proofs.session.absorb.Statement.{statement}
 use Rattle.tally_lines.proofs.session.absorb.Tie as tie
 
 abbrev Inv-loop : tie.InvT-loop
 Inv-loop chunk session₀ used₀ going₀ session used going =
-    (used ≤ length chunk) × (session ≡ sessionOf (takenOf (stateOf session₀) (take used chunk))) × (going ≡ goesOn (session .stop))
+    (used ≤ length chunk) × (session ≡ sessionOf (stateAfter (stateOf session₀) (take used chunk))) × (going ≡ goesOn (session .stop))
 
 abbrev μ-loop : tie.MeasureT-loop
 μ-loop chunk session₀ used₀ going₀ session used going = length chunk - used
@@ -93,7 +94,7 @@ loop-again c =
     let s : State = record { line = content (at-loop .before .before .before .before .extend .result); box = args .st .held; tally = args .st .tally; stop = args .st .stop } in
     let u = loop .used in
     let n = turn .result .used in
-    let here : stateOf (loop .session) ≡ takenOf s (take u chunk) = rw (inv .1) (state-session (takenOf s (take u chunk))) in
+    let here : stateOf (loop .session) ≡ stateAfter s (take u chunk) = rw (inv .1) (state-session (stateAfter s (take u chunk))) in
     let did = rw (to-end chunk u, here) at (turn .ensures) in
     (omega (arith, inv .0, rw length-drop at (did .1)), rw (take-add u n chunk, taken-append s (take u chunk) (take n (drop u chunk))) (did .2), c .goes-on2 .ensures)
 
@@ -111,8 +112,8 @@ returns c =
     let short : length (s .line) ≤ 81 = rw length-take (omega arith) in
     let took : extended .result ≡ partialOf (keptLine (s .line ++ [])) = extended .ensures in
     let kept : content (extended .result) ≡ s .line = rw (took, content-partial (keptLine (s .line ++ [])), append-nil) (take-all 81 (s .line) short) in
-    let is : loop .session ≡ sessionOf (takenOf s (take (loop .used) chunk)) = rw kept at (inv .1) in
-    let stop : loop .session .stop ≡ takenOf s (take (loop .used) chunk) .stop = ap (λ (st : Session). st .stop) is in
+    let is : loop .session ≡ sessionOf (stateAfter s (take (loop .used) chunk)) = rw kept at (inv .1) in
+    let stop : loop .session .stop ≡ stateAfter s (take (loop .used) chunk) .stop = ap (λ (st : Session). st .stop) is in
     is ∙ ap sessionOf (rest-left s chunk (loop .used) (loop .going) (inv .0) (rw stop at (inv .2)) (c .loop-test .left))
 
 pub absorb-spec : {M : Type 1} → statement M
