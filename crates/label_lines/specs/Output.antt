@@ -49,9 +49,19 @@ rowLines ordinal k [] = []
 rowLines ordinal k (v1 ∷ []) = []
 rowLines ordinal k (v1 ∷ v2 ∷ codes) = cond (eqb v1 0) [] (rowLine ordinal k v1 v2) ++ rowLines ordinal (k + 1) codes
 
--- the room for what a line may print: a row for each recogniser, of at most 74 bytes
+-- the most bytes of a row, of a count's line and of a refusal's
+abbrev pub longestRow : ℕ
+longestRow = 74
+
+abbrev pub longestCount : ℕ
+longestCount = 58
+
+abbrev pub longestRefusal : ℕ
+longestRefusal = 71
+
+-- the room for what a line may print: a row for each recogniser
 abbrev pub lineRoom : ℕ
-lineRoom = recognisers * 74
+lineRoom = recognisers * longestRow
 
 -- the bytes of the word refused
 abbrev pub refusedWord : List ℕ

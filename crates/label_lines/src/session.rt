@@ -10,6 +10,7 @@ ghost use Rattle.text.specs.Lines.{content};
 ghost use Rattle.label_lines.specs.Output.{lineRoom, refusalLine, fedStep, lineStep};
 ghost use Rattle.label_lines.specs.Session.{stateOf, sessionOf, freshState, stateAfter, prints, usedOf, takenBytes, absorbedOf, endPrints};
 use crate::output;
+use crate::output::LONGEST_ROW;
 use crate::output::Stop;
 use bar_box::BarBox;
 use measures::Bar;
@@ -17,13 +18,16 @@ use measures::least;
 use recognisers::Refusal;
 use recognisers::Thresholds;
 use recognisers::call::Verdict;
+use recognisers::counts::RECOGNISERS;
+use recognisers::counts::ROW_BYTES;
 use text::Line;
 use text::Partial;
 use text::lines;
 use text::lines::LINE_FEED;
+use text::read_partial;
 
-// The room for what a line may print: eighteen rows.
-const ROOM: usize = 1332;
+// The room for what a line may print: a row for each recogniser.
+pub const ROOM: usize = RECOGNISERS * LONGEST_ROW;
 
 // The line that has begun, the box, and whether a line was refused.
 pub struct Session {
@@ -81,7 +85,7 @@ fn feed_bar(held: BarBox, bar: Bar, out: &mut [u8], at: usize) -> Stepped
 {
     let ordinal = held.count as u64 + 1;
     let prices = [bar.open, bar.close, bar.high, bar.low];
-    let mut sheet = [0u8; 36];
+    let mut sheet = [0u8; ROW_BYTES];
     let fed = bar_box::feed(held, &prices, &mut sheet);
     let verdict = fed.verdict;
     // a refused feed leaves the box as it was, so that no second one is kept for it
@@ -104,7 +108,7 @@ fn step(held: BarBox, line: Partial, out: &mut [u8], at: usize) -> Stepped
     requires { ⌜ at + lineRoom ≤ length (now out) ⌝ }
     ensures { λ r. ⌜ (r .held ≡ lineStep held (content line) .after) × (r .stops ≡ lineStep held (content line) .stops) × (r .at ≤ at + lineRoom) × (r .at ≡ at + length (lineStep held (content line) .printed)) × (now (out .exit) ≡ overlay (now (out .entry)) at (lineStep held (content line) .printed)) ⌝ }
 {
-    match lines::read(line) {
+    match read_partial(line) {
         Line::Prices(bar) => feed_bar(held, bar, out, at),
         Line::BadShape => refuse(held, Stop::By(Refusal::BadShape), out, at),
         Line::BadPrice(place) => refuse(held, Stop::Price(place), out, at),

@@ -4,11 +4,12 @@ use mathlib.Core.Bool.{Bool, true, false, cond, _&&_}
 use mathlib.Core.List.{List, [], _∷_, _++_}
 use lib.Dec.{eqb, leb}
 use lib.ListN.{length, getD, take, replicate}
+use Rattle.rule_types.specs.Number.{labels}
 use Rattle.label_texts.specs.declared.label_text.Text.{Text}
 
 -- the bytes of each label, in the order of the codes
-abbrev pub labels : List (List ℕ)
-labels =
+abbrev pub labelTexts : List (List ℕ)
+labelTexts =
     -- 0 其他
     (229 ∷ 133 ∷ 182 ∷ 228 ∷ 187 ∷ 150 ∷ []) ∷
     -- 1 任意
@@ -89,7 +90,7 @@ labels =
 
 -- the bytes of a code; a code above 37 has no bytes
 abbrev pub bytesOf : ℕ → List ℕ
-bytesOf code = getD labels code []
+bytesOf code = getD labelTexts code []
 
 -- they come by value with their count, at most 15, filled up with zeros
 abbrev pub mostBytes : ℕ
@@ -112,8 +113,8 @@ placeIn (l ∷ ls) s = cond (same l s) 0 (suc (placeIn ls s))
 
 -- the code of bytes; bytes that are no label have code 38
 abbrev pub codeOfBytes : List ℕ → ℕ
-codeOfBytes s = placeIn labels s
+codeOfBytes s = placeIn labelTexts s
 
 -- the code of bytes that come by value: of as many as their count says, which must be at most 15
 unfoldable pub codeOfText : Text → ℕ
-codeOfText t = cond (leb (t .len) mostBytes) (codeOfBytes (take (t .len) (t .bytes))) (length labels)
+codeOfText t = cond (leb (t .len) mostBytes) (codeOfBytes (take (t .len) (t .bytes))) labels

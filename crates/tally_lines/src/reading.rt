@@ -15,6 +15,7 @@ use text::Line;
 use text::Partial;
 use text::lines;
 use text::lines::LINE_FEED;
+use text::read_partial;
 
 // The line that has begun behind the bytes used, the bars read, and whether a line was refused.
 pub struct Gathered {
@@ -30,7 +31,7 @@ fn end_line(line: Partial, used: usize, prices: &mut [f64], n: usize) -> Gathere
     ensures { λ r. ⌜ (r .line ≡ partialOf []) × (r .used ≡ used) × (r .bars ≡ n + length (lineBars (lineOf (content line)))) × (r .stop ≡ lineStop (lineOf (content line))) × (now (prices .exit) ≡ overlay (now (prices .entry)) (4 * n) (pricesOf (lineBars (lineOf (content line))))) ⌝ }
 {
     let begun = lines::begin();
-    match lines::read(line) {
+    match read_partial(line) {
         Line::Prices(bar) => {
             put_bar(bar, prices, n);
             Gathered {

@@ -15,25 +15,28 @@ use crate::reading;
 use crate::reading::Gathered;
 use bar_box::BarBox;
 use label_lines::Stop;
+use label_lines::output::LONGEST_COUNT;
 use label_lines::output::goes_on;
 use label_lines::output::print_refusal;
 use measures::least;
 use recognisers::Thresholds;
 use recognisers::call::Verdict;
+use recognisers::counts::LABELS;
 use recognisers::counts::MOST_BARS;
+use recognisers::counts::RECOGNISERS;
 use tallies::Tallied;
 use tallies::TallyRow;
 use text::Partial;
 use text::lines;
 
 // The room for what the input's end may print: a line for each cell.
-const ROOM: usize = 39672;
+const ROOM: usize = RECOGNISERS * LABELS * LONGEST_COUNT;
 
 // The line that has begun, the box, the tally, and whether a line was refused.
 pub struct Session {
     pub line: Partial,
     pub held: BarBox,
-    pub tally: [TallyRow; 18],
+    pub tally: [TallyRow; RECOGNISERS],
     pub stop: Stop,
 }
 
@@ -71,7 +74,7 @@ fn batch(count: u32) -> usize
 
 // Feeds bars all at once, which leaves what feeding them one by one does (proofs/BatchLaws.antt). No bars, no feed: a tally that doesn't add
 // up is refused with the first bar.
-fn feed_all(held: BarBox, tally: [TallyRow; 18], prices: &[f64]) -> Tallied
+fn feed_all(held: BarBox, tally: [TallyRow; RECOGNISERS], prices: &[f64]) -> Tallied
     requires { ⌜ (length (now prices) ≡ 4 * length (barsOf (now prices))) × (length (now prices) ≤ 4096) × (1 < length (barsOf (now prices)) → held .count + length (barsOf (now prices)) ≤ 1000000) ⌝ }
     ensures { λ r. ⌜ r ≡ fedAll held tally (barsOf (now (prices .entry))) ⌝ }
 {

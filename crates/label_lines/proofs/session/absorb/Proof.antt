@@ -1,6 +1,6 @@
 -- The loop's invariant: the bytes passed are taken in, and the session and the buffer are what they leave. Where the loop ends, no byte
 -- of the rest is taken in. Assumes nothing.
-use Prim.Native.Nat.{_+_, _-_, _≤_, _<_}
+use Prim.Native.Nat.{suc, _+_, _-_, _≤_, _<_}
 use mathlib.Core.List.{[], _++_, append-nil}
 use mathlib.Core.Path.{_≡_, refl, sym, ap, _∙_}
 use native.Mathlib.Omega.{arith}
@@ -9,6 +9,7 @@ use lib.ListN.{length, take, drop, length-map, length-take, length-drop, length-
 use lib.Seq.{take-all}
 use Rattle.measures.specs.Bar.{overlay}
 use Rattle.measures.proofs.Overlay.{overlay-none, overlay-more, length-overlay}
+use Rattle.recognisers.specs.Number.{longestLine}
 use Rattle.text.specs.Lines.{content, keptLine, partialOf}
 use Rattle.text.proofs.LineLaws.{content-partial}
 use Rattle.text.proofs.PartLaws.{to-end}
@@ -122,10 +123,10 @@ returns c =
     let chunk = args .chunk .now in
     let len = length (args .out .now) in
     let s = stateOf (args .st) in
-    let all-bytes : length (args .st .line .bytes) ≡ 81 = simp length-map at (start .good .0 .1 .1 .0 .1 .1 .0 .1 .0 .1) in
-    let short : length (s .line) ≤ 81 = rw length-take (omega arith) in
+    let all-bytes : length (args .st .line .bytes) ≡ suc longestLine = simp length-map at (start .good .0 .1 .1 .0 .1 .1 .0 .1 .0 .1) in
+    let short : length (s .line) ≤ suc longestLine = rw length-take (omega arith) in
     let took : extended .result ≡ partialOf (keptLine (s .line ++ [])) = extended .ensures in
-    let kept : content (extended .result) ≡ s .line = rw (took, content-partial (keptLine (s .line ++ [])), append-nil) (take-all 81 (s .line) short) in
+    let kept : content (extended .result) ≡ s .line = rw (took, content-partial (keptLine (s .line ++ [])), append-nil) (take-all (suc longestLine) (s .line) short) in
     let inv = rw kept at (loop .inv) in
     let here : stateOf (loop .session) ≡ stateAfter s (take (loop .used) chunk) = rw (inv .3) (state-session _) in
     let none = rest-stays (stateOf (loop .session)) chunk (loop .used) (least .least .result) (loop .written) len (least .least .ensures) (inv .1) (c .if1 .left) in

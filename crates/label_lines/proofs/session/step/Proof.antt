@@ -5,8 +5,8 @@ use Rattle.label_lines.specs.Output.{lineStep}
 use Rattle.label_lines.proofs.session.step.Statement.{statement}
 use Rattle.label_lines.proofs.session.step.Tie as tie
 
-read-requires : tie.Need-read-requires
-read-requires c κs = search needs
+read-partial-requires : tie.Need-read-partial-requires
+read-partial-requires c κs = search needs
 
 enum-known-bar : tie.Need-enum-known-bar
 enum-known-bar c = search needs
@@ -32,7 +32,7 @@ same-length c = search needs
 returns : tie.Need-returns
 unfolding lineStep
 returns c =
-    let says = sym (c .before .before .before .before .before .before .before .read .ensures) ∙ c .before .before .before .before .before .bar .given .1 in
+    let says = sym (c .before .before .before .before .before .before .before .read-partial .ensures .0) ∙ c .before .before .before .before .before .bar .given .1 in
     rw says (c .before .before .feed-bar .ensures)
 
 same-length-2 : tie.Need-same-length-2
@@ -41,7 +41,7 @@ same-length-2 c = search needs
 returns-2 : tie.Need-returns-2
 unfolding lineStep
 returns-2 c =
-    let says = sym (c .before .before .before .before .before .before .read .ensures) ∙ c .before .before .before .before .enum-told .given .1 in
+    let says = sym (c .before .before .before .before .before .before .read-partial .ensures .0) ∙ c .before .before .before .before .enum-told .given .1 in
     rw says (c .before .before .refuse .ensures)
 
 same-length-3 : tie.Need-same-length-3
@@ -50,14 +50,14 @@ same-length-3 c = search needs
 returns-3 : tie.Need-returns-3
 unfolding lineStep
 returns-3 c =
-    let says = sym (c .before .before .before .before .before .before .before .read .ensures) ∙ c .before .before .before .before .before .place .given .1 in
+    let says = sym (c .before .before .before .before .before .before .before .read-partial .ensures .0) ∙ c .before .before .before .before .before .place .given .1 in
     rw says (c .before .before .refuse2 .ensures)
 
 pub step-spec : {M : Type 1} → statement M
 step-spec =
     tie.close
     (tie.spec
-    read-requires
+    read-partial-requires
     enum-known-bar
     feed-bar-requires
     enum-told

@@ -12,8 +12,8 @@ use Rattle.tally_lines.proofs.reading.end_line.Tie as tie
 begin-requires : tie.Need-begin-requires
 begin-requires c κs = search needs
 
-read-requires : tie.Need-read-requires
-read-requires c κs = search needs
+read-partial-requires : tie.Need-read-partial-requires
+read-partial-requires c κs = search needs
 
 enum-known-bar : tie.Need-enum-known-bar
 enum-known-bar c = search needs
@@ -40,7 +40,7 @@ returns c =
     let reading = told .before .before in
     let start = reading .before .before .before in
     let args = start .args in
-    let says = sym (reading .read .ensures) ∙ told .bar .given .1 in
+    let says = sym (reading .read-partial .ensures .0) ∙ told .bar .given .1 in
     rw says (reading .before .begin .ensures, refl, refl, refl, put .put-bar .ensures ∙ put-room (args .prices .now) (args .n) (told .bar .given .0 .0) (start .pre))
 
 returns-2 : tie.Need-returns-2
@@ -48,7 +48,7 @@ unfolding pricesOf
 returns-2 c =
     let reading = c .before .before in
     let args = reading .before .before .before .args in
-    let says = sym (reading .read .ensures) ∙ c .enum-told .given .1 in
+    let says = sym (reading .read-partial .ensures .0) ∙ c .enum-told .given .1 in
     rw says (reading .before .begin .ensures, refl, omega arith, refl, sym (overlay-none (args .prices .now) (4 * args .n)))
 
 returns-3 : tie.Need-returns-3
@@ -56,7 +56,7 @@ unfolding pricesOf
 returns-3 c =
     let reading = c .before .before .before in
     let args = reading .before .before .before .args in
-    let says = sym (reading .read .ensures) ∙ c .before .place .given .1 in
+    let says = sym (reading .read-partial .ensures .0) ∙ c .before .place .given .1 in
     rw says (reading .before .begin .ensures, refl, omega arith, refl, sym (overlay-none (args .prices .now) (4 * args .n)))
 
 pub end-line-spec : {M : Type 1} → statement M
@@ -64,7 +64,7 @@ end-line-spec =
     tie.close
     (tie.spec
     begin-requires
-    read-requires
+    read-partial-requires
     enum-known-bar
     put-bar-requires
     add-t13

@@ -1,6 +1,6 @@
 -- The loop's invariant: the session is what the bytes passed leave. Where the loop ends, those of the rest leave nothing else.
 -- Assumes nothing.
-use Prim.Native.Nat.{_+_, _-_, _≤_}
+use Prim.Native.Nat.{suc, _+_, _-_, _≤_}
 use mathlib.Core.List.{[], _++_, append-nil}
 use mathlib.Core.Path.{_≡_, ap, _∙_}
 use native.Mathlib.Omega.{arith}
@@ -8,6 +8,7 @@ use borrow.Author.Needs.{needs}
 use borrow.Author.Tests.{ltb-true}
 use lib.ListN.{length, take, drop, length-map, length-take, length-drop}
 use lib.Seq.{take-all, take-add}
+use Rattle.recognisers.specs.Number.{longestLine}
 use Rattle.text.specs.Lines.{content, keptLine, partialOf}
 use Rattle.text.proofs.LineLaws.{content-partial}
 use Rattle.text.proofs.PartLaws.{to-end}
@@ -108,10 +109,10 @@ returns c =
     let args = start .args in
     let chunk = args .chunk .now in
     let s = stateOf (args .st) in
-    let all-bytes : length (args .st .line .bytes) ≡ 81 = simp length-map at (start .good .0 .1 .1 .0 .1 .1 .0 .1 .0 .1) in
-    let short : length (s .line) ≤ 81 = rw length-take (omega arith) in
+    let all-bytes : length (args .st .line .bytes) ≡ suc longestLine = simp length-map at (start .good .0 .1 .1 .0 .1 .1 .0 .1 .0 .1) in
+    let short : length (s .line) ≤ suc longestLine = rw length-take (omega arith) in
     let took : extended .result ≡ partialOf (keptLine (s .line ++ [])) = extended .ensures in
-    let kept : content (extended .result) ≡ s .line = rw (took, content-partial (keptLine (s .line ++ [])), append-nil) (take-all 81 (s .line) short) in
+    let kept : content (extended .result) ≡ s .line = rw (took, content-partial (keptLine (s .line ++ [])), append-nil) (take-all (suc longestLine) (s .line) short) in
     let is : loop .session ≡ sessionOf (stateAfter s (take (loop .used) chunk)) = rw kept at (inv .1) in
     let stop : loop .session .stop ≡ stateAfter s (take (loop .used) chunk) .stop = ap (λ (st : Session). st .stop) is in
     is ∙ ap sessionOf (rest-left s chunk (loop .used) (loop .going) (inv .0) (rw stop at (inv .2)) (c .loop-test .left))

@@ -4,6 +4,7 @@ use native.Mathlib.Omega.{arith}
 use borrow.Author.Needs.{needs}
 use borrow.Author.Tests.{le-leb}
 use lib.ListN.{length}
+use Rattle.label_lines.specs.Output.{longestRefusal}
 use Rattle.tally_lines.proofs.session.print.Statement.{statement}
 use Rattle.tally_lines.proofs.session.print.Tie as tie
 
@@ -42,7 +43,7 @@ returns-2 c =
     let else = call .before .before in
     let start = else .before .before .before .before .before in
     let out = start .args .out .now in
-    rw (sym (else .before .goes-on .ensures) ∙ else .if1 .left) (rw (le-leb 71 (length out) (omega (arith, start .pre))) at (call .print-refusal .ensures))
+    rw (sym (else .before .goes-on .ensures) ∙ else .if1 .left) (rw (le-leb longestRefusal (length out) (omega (arith, start .pre))) at (call .print-refusal .ensures))
 
 pub print-spec : {M : Type 1} → statement M
 print-spec =
