@@ -32,13 +32,13 @@ use Rattle.label_lines.proofs.SessionLaws.{fed-refused, fed-accepted}
 
 -- ---- the box that a history leaves
 
-abbrev fresh : BarBox
+abbrev pub fresh : BarBox
 fresh = freshBox standardSet
 
-start : NoBars fresh
+pub start : NoBars fresh
 start = fresh-none standardSet
 
-abbrev boxOf : List Bar → BarBox
+abbrev pub boxOf : List Bar → BarBox
 boxOf h = takenIn fresh h
 
 -- ---- a line after a history
@@ -54,7 +54,7 @@ module _ (h : List Bar) (bar : Bar) where
 
   -- up to the most bars it is accepted
   module _ (few : length h + 1 ≤ mostBars) where
-    accepted : verdictOn standardSet h feed ≡ Accepted
+    pub accepted : verdictOn standardSet h feed ≡ Accepted
     unfolding pricesOf
     accepted = accepts standardSet (length h) 4 rowBytes (record { valid = standard-valid; whole = refl; few = few; room = omega arith })
 
@@ -77,11 +77,12 @@ module _ (h : List Bar) (bar : Bar) where
     fed-more = fed-accepted (boxOf h) bar _ refl fed ∙ rw (row, after, count-after fresh start h, length-append h (bar ∷ []))
 
   -- past them it is refused
-  fed-past : length h ≡ mostBars → fedStep (boxOf h) bar ≡ record { printed = refusalLine (length h + 1) (By refusal.TooManyBars); after = boxOf h; stops = true }
+  pub past : length h ≡ mostBars → verdictOn standardSet h feed ≡ Denied refusal.TooManyBars
   unfolding feedVerdict feedTried firstTrue pricesOf
-  fed-past most =
-      let past : verdictOn standardSet h feed ≡ Denied refusal.TooManyBars = simp (standard-valid, lt-ltb mostBars (length h + 1) (omega arith)) in
-      fed-refused (boxOf h) bar _ refl refusal.TooManyBars (verdict-step fresh start h feed ∙ past) ∙ rw (count-after fresh start h)
+  past most = simp (standard-valid, lt-ltb mostBars (length h + 1) (omega arith))
+
+  fed-past : length h ≡ mostBars → fedStep (boxOf h) bar ≡ record { printed = refusalLine (length h + 1) (By refusal.TooManyBars); after = boxOf h; stops = true }
+  fed-past most = fed-refused (boxOf h) bar _ refl refusal.TooManyBars (verdict-step fresh start h feed ∙ past most) ∙ rw (count-after fresh start h)
 
 -- ---- lines after it
 

@@ -9,10 +9,10 @@ use lib.ListN.{length, getD, drop, length-append, drop-of-length-le}
 use lib.Seq.{drop-cons}
 use Rattle.measures.specs.Bar.{overlay}
 use Rattle.measures.proofs.Overlay.{overlay-more}
-use Rattle.text.specs.LabelText.{bytesOf}
+use Rattle.label_texts.specs.LabelText.{bytesOf}
 use Rattle.text.specs.LineText.{comma}
 use Rattle.text.specs.Lines.{lineFeed}
-use Rattle.text.proofs.LabelLaws.{short}
+use Rattle.label_texts.proofs.LabelLaws.{short}
 use Rattle.label_lines.specs.Output.{numeral, field, rowLine, rowLines, longestRow, longestCount, countLine}
 use Rattle.label_lines.proofs.NumeralLaws.{numeral-short}
 

@@ -1,7 +1,7 @@
 -- Runs of bytes: one behind the other, one without a line feed, one that ends with it, and one after a refusal; how many are taken in;
 -- and a fed bar. Assumes nothing.
 use Prim.Native.Nat.{ℕ, suc, _+_, _-_, _≤_, _<_, min}
-use mathlib.Core.Bool.{Bool, true, false, cond, not, _&&_, _||_}
+use mathlib.Core.Bool.{Bool, true, false, cond, not, _&&_, _||_, true≢false}
 use mathlib.Core.List.{List, [], _∷_, _++_, append-assoc, append-nil}
 use mathlib.Core.Path.{_≡_, refl, sym, ap, _∙_}
 use native.Mathlib.Nat.{not-suc-le-zero}
@@ -242,9 +242,6 @@ module _ (s : State) (chunk : List ℕ) (k : ℕ) (going : s .stopped ≡ false)
     rest-taken inside = omega (arith, rw append-nil at (used-quiet room s (take k chunk) [] 0 going full alone (λ s' g. refl)), length-take-le k chunk inside)
 
 -- ---- the input's end
-true-false : true ≡ false → ⊥
-true-false e = let y : _≡_ {A = ℕ} 0 1 = ap (λ (t : Bool). cond t 0 1) e in omega arith
-
 module _ (s : State) where
   pub end-prints : s .stopped ≡ false → eqb (length (s .line)) 0 ≡ false → endPrints s ≡ lineStep (s .box) (s .line) .printed
   unfolding endPrints
@@ -258,7 +255,7 @@ module _ (s : State) where
       go false b c e = refl
       go true true c e = refl
       go true false true e = refl
-      go true false false e = absurd (true-false e)
+      go true false false e = absurd (true≢false e)
 
 -- ---- a loop's four tests
 pub guards : (a b c d : Bool) → (((a && b) && c) && d) ≡ true → (a ≡ true) × (b ≡ true) × (c ≡ true) × (d ≡ true)
@@ -293,7 +290,7 @@ module _ (s : State) (chunk : List ℕ) (used room written len : ℕ) where
       go false false true x y z = used-none (len - written) s (drop used chunk) (rw (y, z))
       go false false false x y z =
           let enough : lineRoom ≤ len - written = ltb-false (len - written) lineRoom z in
-          absurd (true-false (sym (would-go used (length chunk) room written (len - room) (s .stopped) (leb-false (length chunk) used x) y (omega arith) (omega arith)) ∙ e))
+          absurd (true≢false (sym (would-go used (length chunk) room written (len - room) (s .stopped) (leb-false (length chunk) used x) y (omega arith) (omega arith)) ∙ e))
 
 -- ---- n bytes of a chunk more, after u of them
 module _ (s s' : State) (chunk : List ℕ) (u n : ℕ) (here : s' ≡ stateAfter s (take u chunk)) where

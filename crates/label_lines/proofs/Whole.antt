@@ -1,20 +1,17 @@
 -- What the bytes of an input print, and its end, is what its lines print, however it is cut into reads. Assumes nothing.
-use Prim.Native.Nat.{ℕ, suc, _≤_}
+use Prim.Native.Nat.{ℕ}
 use mathlib.Core.Bool.{Bool, true, false, cond}
-use mathlib.Core.List.{List, [], _∷_, _++_, append-assoc, append-nil}
+use mathlib.Core.List.{List, [], _∷_, _++_, flatten, append-assoc, append-nil}
 use mathlib.Core.Logic.{_⊎_, ⊎-elim}
 use mathlib.Core.Path.{_≡_, refl, sym, ap, _∙_}
 use native.Mathlib.Omega.{arith}
 use borrow.Author.Tests.{eqb-true, ne-eqb}
 use lib.Dec.{eqb}
 use lib.ListN.{length, take, drop, take-append-drop}
-use Rattle.recognisers.specs.Threshold.{standardSet}
-use Rattle.bar_box.specs.declared.boxes.BarBox.{BarBox}
-use Rattle.bar_box.specs.Box.{freshBox}
 use Rattle.text.specs.Lines.{lineFeed, linesFrom, keptLine}
 use Rattle.text.proofs.LineLaws.{lines-end, lines-last, lines-feed, lines-byte, kept-kept}
 use Rattle.label_lines.specs.Output.{Step, lineStep, printedOf, outputOf}
-use Rattle.label_lines.specs.Session.{State, freshState, ended, grown, byteLeaves, bytePrints, stateAfter, prints, usedOf, takenBytes, endPrints, readsPrint, partsOf, joined}
+use Rattle.label_lines.specs.Session.{State, freshState, ended, grown, byteLeaves, bytePrints, stateAfter, prints, usedOf, takenBytes, endPrints, readsPrint, partsOf}
 use Rattle.label_lines.proofs.SessionLaws.{step-kept, leaves-append, prints-append, stopped-leaves, stopped-prints, byte-grows, byte-ends, byte-quiet, feed-prints}
 
 -- what bytes print, and then the input's end
@@ -71,20 +68,20 @@ pub whole : (input : List ℕ) → allPrint freshState input ≡ outputOf input
 whole input = from-state freshState [] input refl refl
 
 -- in several: the same as in one
-pub reads-join : (s : State) (reads : List (List ℕ)) → readsPrint s reads ≡ allPrint s (joined reads)
-unfolding readsPrint joined prints stateAfter
+pub reads-join : (s : State) (reads : List (List ℕ)) → readsPrint s reads ≡ allPrint s (flatten reads)
+unfolding readsPrint flatten prints stateAfter
 reads-join s [] = refl
-reads-join s (bytes ∷ reads) = rw (prints-append s bytes (joined reads), leaves-append s bytes (joined reads), append-assoc) (ap (λ (l : List ℕ). prints s bytes ++ l) (reads-join (stateAfter s bytes) reads))
+reads-join s (bytes ∷ reads) = rw (prints-append s bytes (flatten reads), leaves-append s bytes (flatten reads), append-assoc) (ap (λ (l : List ℕ). prints s bytes ++ l) (reads-join (stateAfter s bytes) reads))
 
 -- the theorem of the program: however its input is cut into reads, it prints what the input's lines print
-pub reads-print : (reads : List (List ℕ)) → readsPrint freshState reads ≡ outputOf (joined reads)
-reads-print reads = reads-join freshState reads ∙ whole (joined reads)
+pub reads-print : (reads : List (List ℕ)) → readsPrint freshState reads ≡ outputOf (flatten reads)
+reads-print reads = reads-join freshState reads ∙ whole (flatten reads)
 
 -- ---- an input that is taken in part by part, as `absorb` does where each call is handed what the calls before it left
 
 -- the parts are the input's, up to some place
-parts-front : (s : State) (rooms input : List ℕ) → (rest : List ℕ) × (joined (partsOf s rooms input) ++ rest ≡ input)
-unfolding joined partsOf
+parts-front : (s : State) (rooms input : List ℕ) → (rest : List ℕ) × (flatten (partsOf s rooms input) ++ rest ≡ input)
+unfolding flatten partsOf
 parts-front s [] input = (input, refl)
 parts-front s (room ∷ rooms) input =
     let more = parts-front (stateAfter s (takenBytes room s input)) rooms (drop (usedOf room s input) input) in
@@ -96,9 +93,9 @@ stopped-more s xs rest e = rw (prints-append s xs rest, leaves-append s xs rest,
 
 -- the same as in one, once a line was refused or all is used
 pub parts-print : (rooms input : List ℕ) → let parts = partsOf freshState rooms input in
-    (stateAfter freshState (joined parts) .stopped ≡ true) ⊎ (joined parts ≡ input)
+    (stateAfter freshState (flatten parts) .stopped ≡ true) ⊎ (flatten parts ≡ input)
     → readsPrint freshState parts ≡ outputOf input
 parts-print rooms input =
     let parts = partsOf freshState rooms input in
     let front = parts-front freshState rooms input in
-    ⊎-elim (λ stopped. reads-join freshState parts ∙ sym (stopped-more freshState (joined parts) (front .0) stopped) ∙ rw (front .1) (whole input)) (λ all. reads-print parts ∙ ap outputOf all)
+    ⊎-elim (λ stopped. reads-join freshState parts ∙ sym (stopped-more freshState (flatten parts) (front .0) stopped) ∙ rw (front .1) (whole input)) (λ all. reads-print parts ∙ ap outputOf all)

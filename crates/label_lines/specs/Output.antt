@@ -14,11 +14,10 @@ use Rattle.recognisers.specs.Number.{recognisers, rowBytes}
 use Rattle.recognisers.specs.Refusal.{refusalNumber}
 use Rattle.recognisers.specs.Threshold.{standardSet}
 use Rattle.bar_box.specs.declared.boxes.BarBox.{BarBox}
-use Rattle.bar_box.specs.declared.boxes.Outcome.{Outcome}
 use Rattle.bar_box.specs.Box.{freshBox, fedOf, sheetOf}
 use Rattle.text.specs.declared.line_text.Line.{Line}
 use Rattle.text.specs.declared.line_text.Line.the-variants.{Prices, BadShape, BadPrice}
-use Rattle.text.specs.LabelText.{bytesOf}
+use Rattle.label_texts.specs.LabelText.{bytesOf}
 use Rattle.text.specs.LineText.{comma, lineOf}
 use Rattle.text.specs.Lines.{lineFeed, linesOf}
 use Rattle.label_lines.specs.declared.output.Stop.{Stop}

@@ -85,8 +85,3 @@ unfoldable pub partsOf : State → List ℕ → List ℕ → List (List ℕ)
 partsOf s [] input = []
 partsOf s (room ∷ rooms) input =
     takenBytes room s input ∷ partsOf (stateAfter s (takenBytes room s input)) rooms (drop (usedOf room s input) input)
-
--- the bytes of several reads as one input
-unfoldable pub joined : List (List ℕ) → List ℕ
-joined [] = []
-joined (bytes ∷ reads) = bytes ++ joined reads

@@ -7,7 +7,7 @@ ghost use lib.Dec.{eqb};
 ghost use lib.ListN.{length};
 ghost use Rattle.measures.specs.Bar.{overlay};
 ghost use Rattle.recognisers.specs.Number.{rowBytes};
-ghost use Rattle.text.specs.LabelText.{bytesOf};
+ghost use Rattle.label_texts.specs.LabelText.{bytesOf};
 ghost use Rattle.label_lines.specs.Output.{numeral, field, rowLine, rowLines, longestRow, longestCount, longestRefusal, lineRoom, goesOn, refusalPart, refusalLine, countLine, lineIn};
 use measures::least;
 use recognisers::Refusal;

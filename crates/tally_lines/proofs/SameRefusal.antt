@@ -14,9 +14,9 @@ use Rattle.recognisers.specs.declared.call.Refusal.the-variants as refusal
 use Rattle.recognisers.specs.Number.{mostBars}
 use Rattle.text.specs.declared.line_text.Line.{Line}
 use Rattle.text.specs.declared.line_text.Line.the-variants.{Prices, BadShape, BadPrice}
-use Rattle.text.specs.LabelText.{bytesOf}
+use Rattle.label_texts.specs.LabelText.{bytesOf}
 use Rattle.text.specs.LineText.{comma, lineOf}
-use Rattle.text.specs.Lines.{lineFeed, linesOf}
+use Rattle.text.specs.Lines.{linesOf}
 use Rattle.label_lines.specs.declared.output.Stop.{Stop}
 use Rattle.label_lines.specs.declared.output.Stop.the-variants.{By, Price}
 use Rattle.label_lines.specs.Output.{numeral, field, rowLine, rowLines, goesOn, refusalLine}

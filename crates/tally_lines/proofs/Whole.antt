@@ -2,7 +2,7 @@
 -- Assumes nothing.
 use Prim.Native.Nat.{ℕ, _+_, _≤_}
 use mathlib.Core.Bool.{Bool, true, false, cond}
-use mathlib.Core.List.{List, [], _∷_, _++_, map, append-assoc, append-nil}
+use mathlib.Core.List.{List, [], _∷_, _++_, map, flatten, append-assoc, append-nil}
 use mathlib.Core.Path.{_≡_, refl, sym, ap, _∙_}
 use native.Mathlib.Omega.{arith}
 use borrow.Author.Tests.{ltb-true, ltb-false, eqb-true, ne-eqb}
@@ -22,14 +22,14 @@ use Rattle.text.specs.Lines.{lineFeed, linesFrom, keptLine}
 use Rattle.text.proofs.LineLaws.{lines-end, lines-last, lines-feed, lines-byte}
 use Rattle.label_lines.specs.Output.{refusalLine}
 use Rattle.label_lines.specs.History.{linesPrint}
-use Rattle.label_lines.specs.Session.{joined}
 use Rattle.label_lines.specs.declared.output.Stop.the-variants.{Going, By}
+use Rattle.label_lines.proofs.HistoryRows.{boxOf}
 use Rattle.tally_lines.specs.Output.{cellLines, tallyLines}
 use Rattle.tally_lines.specs.Session.{Read, State, afterLine, readFrom, fedAll, settled, stateAfter, readsLeave, closed, printed, endPrints, freshState}
 use Rattle.tally_lines.specs.History.{historyTally, tallyPrints, outputOf}
 use Rattle.tally_lines.proofs.ReadLaws.{read-kept, read-after, read-feed}
 use Rattle.tally_lines.proofs.SessionLaws.{taken-append, none-taken}
-use Rattle.tally_lines.proofs.HistoryLaws.{boxOf, box-count, box-none, tally-fresh, fed-more, fed-past}
+use Rattle.tally_lines.proofs.HistoryLaws.{box-count, box-none, tally-fresh, fed-more, fed-past}
 
 -- what a history has left, and then what was read behind it
 abbrev after : List Bar → Read → State
@@ -125,17 +125,17 @@ unfolding stateAfter
 whole input = rw (box-none, ← tally-fresh) (after-history [] [] input (omega arith))
 
 -- in several: the same as in one
-reads-join : (s : State) (bytes : List ℕ) (reads : List (List ℕ)) → readsLeave (stateAfter s bytes) reads ≡ stateAfter s (bytes ++ joined reads)
-unfolding readsLeave joined
+reads-join : (s : State) (bytes : List ℕ) (reads : List (List ℕ)) → readsLeave (stateAfter s bytes) reads ≡ stateAfter s (bytes ++ flatten reads)
+unfolding readsLeave flatten
 reads-join s bytes [] = rw append-nil
 reads-join s bytes (more ∷ reads) = rw (← taken-append s bytes more, reads-join s (bytes ++ more) reads, append-assoc)
 
 -- the theorem of the program: however its input is cut into reads, it prints what the input's lines print
-pub reads-print : (reads : List (List ℕ)) → endPrints (readsLeave freshState reads) ≡ outputOf (joined reads)
+pub reads-print : (reads : List (List ℕ)) → endPrints (readsLeave freshState reads) ≡ outputOf (flatten reads)
 reads-print reads =
     ap (λ (s : State). endPrints (readsLeave s reads)) (sym (none-taken [] (freshState .box) freshTally Going refl))
     ∙ ap endPrints (reads-join freshState [] reads)
-    ∙ whole (joined reads)
+    ∙ whole (flatten reads)
 
 -- an input without a byte prints nothing
 pub none-prints : outputOf [] ≡ []

@@ -38,11 +38,20 @@ pub record Read : Type 0 where
   pub line : List ℕ
   pub stop : Stop
 
+-- a line's bar, and its refusal
+abbrev pub lineBars : Line → List Bar
+lineBars (Prices bar) = bar ∷ []
+lineBars BadShape = []
+lineBars (BadPrice place) = []
+
+abbrev pub lineStop : Line → Stop
+lineStop (Prices bar) = Going
+lineStop BadShape = By refusal.BadShape
+lineStop (BadPrice place) = Price place
+
 -- the end of a line behind these bars: its bar follows them, and reading goes on; a line that is no bar is refused, and it doesn't
 abbrev pub afterLine : Line → List Bar → (List Bar → Read) → Read
-afterLine (Prices bar) bars on = on (bars ++ (bar ∷ []))
-afterLine BadShape bars on = record { bars = bars; line = []; stop = By refusal.BadShape }
-afterLine (BadPrice place) bars on = record { bars = bars; line = []; stop = Price place }
+afterLine l bars on = cond (goesOn (lineStop l)) (on (bars ++ lineBars l)) (record { bars = bars; line = []; stop = lineStop l })
 
 -- bytes behind these bars and a line that has begun with the bytes cur
 unfoldable pub readFrom : List Bar → List ℕ → List ℕ → Read
@@ -114,18 +123,7 @@ closed s = cond (eqb (length (s .line)) 0) s (stateAfter s (lineFeed ∷ []))
 abbrev pub endPrints : State → List ℕ
 endPrints s = printed (closed s)
 
--- ---- the code's helpers
-
--- what a line that has ended gives
-abbrev pub lineBars : Line → List Bar
-lineBars (Prices bar) = bar ∷ []
-lineBars BadShape = []
-lineBars (BadPrice place) = []
-
-abbrev pub lineStop : Line → Stop
-lineStop (Prices bar) = Going
-lineStop BadShape = By refusal.BadShape
-lineStop (BadPrice place) = Price place
+-- ---- the code's helper
 
 -- what reading so many bytes gathers, behind n bars
 abbrev pub gatheredOf : ℕ → ℕ → Read → Gathered

@@ -1,5 +1,5 @@
 -- Nothing; the refusal; or the place behind the refusal and its comma. Assumes nothing.
-use mathlib.Core.Path.{refl, sym}
+use mathlib.Core.Path.{sym}
 use native.Mathlib.Omega.{arith}
 use borrow.Author.Needs.{needs}
 use Rattle.recognisers.specs.declared.call.Refusal.the-variants.{BadPrice}
