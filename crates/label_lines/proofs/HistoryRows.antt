@@ -25,19 +25,20 @@ use Rattle.text.specs.declared.line_text.Line.{Line}
 use Rattle.text.specs.declared.line_text.Line.the-variants.{Prices, BadShape, BadPrice}
 use Rattle.text.specs.LineText.{lineOf}
 use Rattle.text.specs.Lines.{linesOf}
-use Rattle.label_lines.specs.Output.{refusalLine, badPriceLine, fedStep, readStep, stepOf, printedOf, outputOf}
-use Rattle.label_lines.specs.History.{newestLines, historyPrints}
+use Rattle.label_lines.specs.declared.output.Stop.the-variants.{By, Price}
+use Rattle.label_lines.specs.Output.{refusalLine, fedStep, readStep, lineStep, printedOf, outputOf}
+use Rattle.label_lines.specs.History.{newestLines, linesPrint, historyPrints}
 use Rattle.label_lines.proofs.SessionLaws.{fed-refused, fed-accepted}
 
 -- ---- the box that a history leaves
 
-abbrev fresh : BarBox
+abbrev pub fresh : BarBox
 fresh = freshBox standardSet
 
-start : NoBars fresh
+pub start : NoBars fresh
 start = fresh-none standardSet
 
-abbrev boxOf : List Bar → BarBox
+abbrev pub boxOf : List Bar → BarBox
 boxOf h = takenIn fresh h
 
 -- ---- a line after a history
@@ -53,7 +54,7 @@ module _ (h : List Bar) (bar : Bar) where
 
   -- up to the most bars it is accepted
   module _ (few : length h + 1 ≤ mostBars) where
-    accepted : verdictOn standardSet h feed ≡ Accepted
+    pub accepted : verdictOn standardSet h feed ≡ Accepted
     unfolding pricesOf
     accepted = accepts standardSet (length h) 4 rowBytes (record { valid = standard-valid; whole = refl; few = few; room = omega arith })
 
@@ -76,11 +77,12 @@ module _ (h : List Bar) (bar : Bar) where
     fed-more = fed-accepted (boxOf h) bar _ refl fed ∙ rw (row, after, count-after fresh start h, length-append h (bar ∷ []))
 
   -- past them it is refused
-  fed-past : length h ≡ mostBars → fedStep (boxOf h) bar ≡ record { printed = refusalLine (length h + 1) refusal.TooManyBars; after = boxOf h; stops = true }
+  pub past : length h ≡ mostBars → verdictOn standardSet h feed ≡ Denied refusal.TooManyBars
   unfolding feedVerdict feedTried firstTrue pricesOf
-  fed-past most =
-      let past : verdictOn standardSet h feed ≡ Denied refusal.TooManyBars = simp (standard-valid, lt-ltb mostBars (length h + 1) (omega arith)) in
-      fed-refused (boxOf h) bar _ refl refusal.TooManyBars (verdict-step fresh start h feed ∙ past) ∙ rw (count-after fresh start h)
+  past most = simp (standard-valid, lt-ltb mostBars (length h + 1) (omega arith))
+
+  fed-past : length h ≡ mostBars → fedStep (boxOf h) bar ≡ record { printed = refusalLine (length h + 1) (By refusal.TooManyBars); after = boxOf h; stops = true }
+  fed-past most = fed-refused (boxOf h) bar _ refl refusal.TooManyBars (verdict-step fresh start h feed ∙ past most) ∙ rw (count-after fresh start h)
 
 -- ---- lines after it
 
@@ -88,24 +90,24 @@ module _ (h : List Bar) (bar : Bar) where
 module _ (lines : List (List ℕ)) (on : (h : List Bar) → length h ≤ mostBars → printedOf (boxOf h) lines ≡ historyPrints h (map lineOf lines)) where
   bar-line : (h : List Bar) (bar : Bar) (t : Bool) → ltb (length h) mostBars ≡ t → length h ≤ mostBars
       → fedStep (boxOf h) bar .printed ++ cond (fedStep (boxOf h) bar .stops) [] (printedOf (fedStep (boxOf h) bar .after) lines)
-      ≡ cond t (newestLines (h ++ (bar ∷ [])) ++ historyPrints (h ++ (bar ∷ [])) (map lineOf lines)) (refusalLine (length h + 1) refusal.TooManyBars)
+      ≡ cond t (newestLines (h ++ (bar ∷ [])) ++ historyPrints (h ++ (bar ∷ [])) (map lineOf lines)) (refusalLine (length h + 1) (By refusal.TooManyBars))
   bar-line h bar true room few =
       let below = ltb-true (length h) mostBars room in
       let still : length (h ++ (bar ∷ [])) ≤ mostBars = rw (length-append h (bar ∷ [])) (omega (arith, below)) in
       rw (fed-more h bar (omega (arith, below)), on (h ++ (bar ∷ [])) still)
   bar-line h bar false full few =
       let most : length h ≡ mostBars = omega (arith, few, ltb-false (length h) mostBars full) in
-      rw (fed-past h bar most) (append-nil (refusalLine (length h + 1) refusal.TooManyBars))
+      rw (fed-past h bar most) (append-nil (refusalLine (length h + 1) (By refusal.TooManyBars)))
 
   one-line : (h : List Bar) (l : Line) → length h ≤ mostBars
       → readStep (boxOf h) l .printed ++ cond (readStep (boxOf h) l .stops) [] (printedOf (readStep (boxOf h) l .after) lines) ≡ historyPrints h (l ∷ map lineOf lines)
-  unfolding historyPrints
+  unfolding linesPrint
   one-line h (Prices bar) few = bar-line h bar (ltb (length h) mostBars) refl few
-  one-line h BadShape few = rw (count-after fresh start h) (append-nil (refusalLine (length h + 1) refusal.BadShape))
-  one-line h (BadPrice place) few = rw (count-after fresh start h) (append-nil (badPriceLine (length h + 1) place))
+  one-line h BadShape few = rw (count-after fresh start h) (append-nil (refusalLine (length h + 1) (By refusal.BadShape)))
+  one-line h (BadPrice place) few = rw (count-after fresh start h) (append-nil (refusalLine (length h + 1) (Price place)))
 
 after-history : (h : List Bar) (lines : List (List ℕ)) → length h ≤ mostBars → printedOf (boxOf h) lines ≡ historyPrints h (map lineOf lines)
-unfolding printedOf stepOf historyPrints
+unfolding printedOf lineStep linesPrint
 after-history h [] few = refl
 after-history h (line ∷ lines) few = one-line lines (λ h' few'. after-history h' lines few') h (lineOf line) few
 

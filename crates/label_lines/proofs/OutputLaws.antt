@@ -9,11 +9,11 @@ use lib.ListN.{length, getD, drop, length-append, drop-of-length-le}
 use lib.Seq.{drop-cons}
 use Rattle.measures.specs.Bar.{overlay}
 use Rattle.measures.proofs.Overlay.{overlay-more}
-use Rattle.text.specs.LabelText.{bytesOf}
+use Rattle.label_texts.specs.LabelText.{bytesOf}
 use Rattle.text.specs.LineText.{comma}
 use Rattle.text.specs.Lines.{lineFeed}
-use Rattle.text.proofs.LabelLaws.{short}
-use Rattle.label_lines.specs.Output.{numeral, field, rowLine, rowLines, countLine}
+use Rattle.label_texts.proofs.LabelLaws.{short}
+use Rattle.label_lines.specs.Output.{numeral, field, rowLine, rowLines, longestRow, longestCount, countLine}
 use Rattle.label_lines.proofs.NumeralLaws.{numeral-short}
 
 -- ---- bytes written behind bytes
@@ -44,7 +44,7 @@ pairLine ordinal k v1 v2 = cond (eqb v1 0) [] (rowLine ordinal k v1 v2)
 joined : (a b c d : List ℕ) → length (a ++ b ++ c ++ d) ≡ length a + length b + length c + length d
 joined a b c d = rw (length-append (a ++ b ++ c) d, length-append (a ++ b) c, length-append a b)
 
-row-most : (ordinal k v1 v2 : ℕ) → length (rowLine ordinal k v1 v2) ≤ 74
+row-most : (ordinal k v1 v2 : ℕ) → length (rowLine ordinal k v1 v2) ≤ longestRow
 unfolding rowLine
 row-most ordinal k v1 v2 =
     let a = field (numeral ordinal) comma in
@@ -53,14 +53,14 @@ row-most ordinal k v1 v2 =
     let d = field (bytesOf v2) lineFeed in
     omega (arith, joined a b c d, number-most ordinal comma, number-most k comma, label-most v1 comma, label-most v2 lineFeed)
 
-pub pair-most : (ordinal k v1 v2 : ℕ) → length (pairLine ordinal k v1 v2) ≤ 74
+pub pair-most : (ordinal k v1 v2 : ℕ) → length (pairLine ordinal k v1 v2) ≤ longestRow
 pair-most ordinal k v1 v2 = go (eqb v1 0)
   where
-    go : (t : Bool) → length (cond t [] (rowLine ordinal k v1 v2)) ≤ 74
+    go : (t : Bool) → length (cond t [] (rowLine ordinal k v1 v2)) ≤ longestRow
     go true = omega arith
     go false = row-most ordinal k v1 v2
 
-pub count-most : (k code count : ℕ) → length (countLine k code count) ≤ 58
+pub count-most : (k code count : ℕ) → length (countLine k code count) ≤ longestCount
 unfolding countLine
 count-most k code count =
     let a = field (numeral k) comma in
@@ -71,7 +71,7 @@ count-most k code count =
 
 -- ---- the lines of a sheet
 
-pub rows-most : (ordinal k : ℕ) (codes : List ℕ) → length (rowLines ordinal k codes) ≤ 37 * length codes
+pub rows-most : (ordinal k : ℕ) (codes : List ℕ) → 2 * length (rowLines ordinal k codes) ≤ longestRow * length codes
 unfolding rowLines
 rows-most ordinal k [] = omega arith
 rows-most ordinal k (v1 ∷ []) = omega arith

@@ -12,7 +12,7 @@ use Rattle.text.specs.declared.line_text.Line.{Line}
 use Rattle.text.specs.declared.line_text.Line.the-variants.{Prices, BadShape, BadPrice}
 use Rattle.text.specs.LineText.{lineOf}
 use Rattle.text.specs.Lines.{linesOf}
-use Rattle.label_lines.specs.History.{newestLines, historyPrints}
+use Rattle.label_lines.specs.History.{newestLines, linesPrint, historyPrints}
 use Rattle.label_lines.specs.SameRows.{by8, Same, SameRows}
 use Rattle.label_lines.proofs.HistoryRows.{history-output}
 
@@ -22,7 +22,7 @@ behind xs now then (inl e) = inl (ap (λ (l : List ℕ). xs ++ l) e)
 behind xs now then (inr (rows, ordinal, place, a, b)) = inr (xs ++ rows, ordinal, place, rw (a, append-assoc), rw (b, append-assoc))
 
 same-prints : (h : List Bar) (lines : List Line) → Same (historyPrints h lines) (historyPrints h (map by8 lines))
-unfolding historyPrints
+unfolding linesPrint
 same-prints h [] = inl refl
 same-prints h (BadShape ∷ lines) = inl refl
 same-prints h (BadPrice place ∷ lines) = inr ([], length h + 1, place, refl, refl)

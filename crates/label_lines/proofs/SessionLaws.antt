@@ -1,7 +1,7 @@
 -- Runs of bytes: one behind the other, one without a line feed, one that ends with it, and one after a refusal; how many are taken in;
 -- and a fed bar. Assumes nothing.
 use Prim.Native.Nat.{ℕ, suc, _+_, _-_, _≤_, _<_, min}
-use mathlib.Core.Bool.{Bool, true, false, cond, not, _&&_, _||_}
+use mathlib.Core.Bool.{Bool, true, false, cond, not, _&&_, _||_, true≢false}
 use mathlib.Core.List.{List, [], _∷_, _++_, append-assoc, append-nil}
 use mathlib.Core.Path.{_≡_, refl, sym, ap, _∙_}
 use native.Mathlib.Nat.{not-suc-le-zero}
@@ -23,18 +23,19 @@ use Rattle.text.specs.PriceText.{runOf}
 use Rattle.text.specs.Lines.{lineFeed, pieceEnd, keptLine, content, partialOf}
 use Rattle.text.proofs.LineLaws.{line-kept, kept-kept, content-partial}
 use Rattle.text.proofs.RunLaws.{both, all-pass, run-taken}
+use Rattle.label_lines.specs.declared.output.Stop.the-variants.{By}
 use Rattle.label_lines.specs.declared.session.Session.{Session}
-use Rattle.label_lines.specs.Output.{rowLines, lineRoom, refusalLine, fedStep, stepOf}
-use Rattle.label_lines.specs.Session.{State, stateOf, sessionOf, ended, grown, byteLeaves, bytePrints, leaves, prints, usedOf, endPrints}
+use Rattle.label_lines.specs.Output.{rowLines, lineRoom, refusedStep, fedStep, lineStep}
+use Rattle.label_lines.specs.Session.{State, stateOf, sessionOf, ended, grown, byteLeaves, bytePrints, stateAfter, prints, usedOf, endPrints}
 
 -- ---- one behind the other
-pub leaves-append : (s : State) (xs ys : List ℕ) → leaves s (xs ++ ys) ≡ leaves (leaves s xs) ys
-unfolding leaves
+pub leaves-append : (s : State) (xs ys : List ℕ) → stateAfter s (xs ++ ys) ≡ stateAfter (stateAfter s xs) ys
+unfolding stateAfter
 leaves-append s [] ys = refl
 leaves-append s (x ∷ xs) ys = leaves-append (byteLeaves s x) xs ys
 
-pub prints-append : (s : State) (xs ys : List ℕ) → prints s (xs ++ ys) ≡ prints s xs ++ prints (leaves s xs) ys
-unfolding leaves prints
+pub prints-append : (s : State) (xs ys : List ℕ) → prints s (xs ++ ys) ≡ prints s xs ++ prints (stateAfter s xs) ys
+unfolding stateAfter prints
 prints-append s [] ys = refl
 prints-append s (x ∷ xs) ys = rw (append-assoc, prints-append (byteLeaves s x) xs ys)
 
@@ -42,10 +43,10 @@ prints-append s (x ∷ xs) ys = rw (append-assoc, prints-append (byteLeaves s x)
 stopped-byte : (s : State) (b : ℕ) → s .stopped ≡ true → (byteLeaves s b ≡ s) × (bytePrints s b ≡ [])
 unfolding byteLeaves bytePrints
 stopped-byte s b e =
-    (ap (λ (t : Bool). cond t s (cond (eqb b lineFeed) (ended s) (grown s (b ∷ [])))) e, ap (λ (t : Bool). cond t [] (cond (eqb b lineFeed) (stepOf (s .box) (s .line) .printed) [])) e)
+    (ap (λ (t : Bool). cond t s (cond (eqb b lineFeed) (ended s) (grown s (b ∷ [])))) e, ap (λ (t : Bool). cond t [] (cond (eqb b lineFeed) (lineStep (s .box) (s .line) .printed) [])) e)
 
-pub stopped-leaves : (s : State) (xs : List ℕ) → s .stopped ≡ true → leaves s xs ≡ s
-unfolding leaves
+pub stopped-leaves : (s : State) (xs : List ℕ) → s .stopped ≡ true → stateAfter s xs ≡ s
+unfolding stateAfter
 stopped-leaves s [] e = refl
 stopped-leaves s (x ∷ xs) e = rw (stopped-byte s x e .0) (stopped-leaves s xs e)
 
@@ -71,7 +72,7 @@ module _ (s : State) (going : s .stopped ≡ false) where
   unfolding bytePrints
   byte-quiet b e = rw (going, e)
 
-  pub feed-prints : bytePrints s lineFeed ≡ stepOf (s .box) (s .line) .printed
+  pub feed-prints : bytePrints s lineFeed ≡ lineStep (s .box) (s .line) .printed
   unfolding bytePrints
   feed-prints = rw going
 
@@ -81,16 +82,16 @@ grown-none s h = rw (append-nil, take-all (suc longestLine) (s .line) h)
 pub grown-grown : (s : State) (xs ys : List ℕ) → grown (grown s xs) ys ≡ grown s (xs ++ ys)
 grown-grown s xs ys = rw (kept-kept (s .line ++ xs) ys, append-assoc)
 
-quiet-leaves : (s : State) (xs : List ℕ) → s .stopped ≡ false → length (s .line) ≤ suc longestLine → pieceEnd lineFeed xs ≡ length xs → leaves s xs ≡ grown s xs
-unfolding leaves
+quiet-leaves : (s : State) (xs : List ℕ) → s .stopped ≡ false → length (s .line) ≤ suc longestLine → pieceEnd lineFeed xs ≡ length xs → stateAfter s xs ≡ grown s xs
+unfolding stateAfter
 quiet-leaves s [] going h e = sym (grown-none s h)
 quiet-leaves s (x ∷ xs) going h e =
     let pass = all-pass (λ b. not (eqb b lineFeed)) x xs e in
     rw (byte-grows s going x (not-true (eqb x lineFeed) (pass .0))) (quiet-leaves (grown s (x ∷ [])) xs going (kept-short (s .line ++ (x ∷ []))) (pass .1) ∙ grown-grown s (x ∷ []) xs)
 
 -- after a first byte no more than what is kept is there
-pub quiet-some : (s : State) (xs : List ℕ) → s .stopped ≡ false → 1 ≤ length xs → pieceEnd lineFeed xs ≡ length xs → leaves s xs ≡ grown s xs
-unfolding leaves
+pub quiet-some : (s : State) (xs : List ℕ) → s .stopped ≡ false → 1 ≤ length xs → pieceEnd lineFeed xs ≡ length xs → stateAfter s xs ≡ grown s xs
+unfolding stateAfter
 quiet-some s [] going some e = absurd (not-suc-le-zero some)
 quiet-some s (x ∷ xs) going some e =
     let pass = all-pass (λ b. not (eqb b lineFeed)) x xs e in
@@ -107,18 +108,18 @@ quiet-prints s (x ∷ xs) going e =
 -- ---- bytes that end with the line's feed
 
 -- the kept bytes of a line are enough
-pub step-kept : (b : BarBox) (line : List ℕ) → stepOf b (keptLine line) ≡ stepOf b line
-unfolding stepOf
+pub step-kept : (b : BarBox) (line : List ℕ) → lineStep b (keptLine line) ≡ lineStep b line
+unfolding lineStep
 step-kept b line = rw (line-kept line)
 
 module _ (s : State) (going : s .stopped ≡ false) where
-  pub line-leaves : (xs : List ℕ) → pieceEnd lineFeed xs ≡ length xs → leaves s (xs ++ (lineFeed ∷ [])) ≡ ended (grown s xs)
-  unfolding leaves
+  pub line-leaves : (xs : List ℕ) → pieceEnd lineFeed xs ≡ length xs → stateAfter s (xs ++ (lineFeed ∷ [])) ≡ ended (grown s xs)
+  unfolding stateAfter
   line-leaves [] e = rw (byte-ends s going, append-nil, step-kept (s .box) (s .line))
   line-leaves (x ∷ xs) e = rw (leaves-append s (x ∷ xs) (lineFeed ∷ []), quiet-some s (x ∷ xs) going (omega arith) e, byte-ends (grown s (x ∷ xs)) going)
 
-  pub line-prints : (xs : List ℕ) → pieceEnd lineFeed xs ≡ length xs → prints s (xs ++ (lineFeed ∷ [])) ≡ stepOf (s .box) (keptLine (s .line ++ xs)) .printed
-  unfolding prints leaves
+  pub line-prints : (xs : List ℕ) → pieceEnd lineFeed xs ≡ length xs → prints s (xs ++ (lineFeed ∷ [])) ≡ lineStep (s .box) (keptLine (s .line ++ xs)) .printed
+  unfolding prints stateAfter
   line-prints [] e = rw (feed-prints s going, append-nil, append-nil, step-kept (s .box) (s .line))
   line-prints (x ∷ xs) e = rw (prints-append s (x ∷ xs) (lineFeed ∷ []), quiet-prints s (x ∷ xs) going e, quiet-some s (x ∷ xs) going (omega arith) e, feed-prints (grown s (x ∷ xs)) going, append-nil)
 
@@ -165,8 +166,8 @@ used-most room s (b ∷ bytes) = go (s .stopped || ltb room lineRoom) (used-most
 
 -- bytes that are all taken in, and others behind them
 used-append : (room : ℕ) (s : State) (xs ys : List ℕ) → usedOf room s xs ≡ length xs
-    → usedOf room s (xs ++ ys) ≡ length xs + usedOf (room - length (prints s xs)) (leaves s xs) ys
-unfolding usedOf prints leaves
+    → usedOf room s (xs ++ ys) ≡ length xs + usedOf (room - length (prints s xs)) (stateAfter s xs) ys
+unfolding usedOf prints stateAfter
 used-append room s [] ys e = let all : room - 0 ≡ room = omega arith in rw all (omega arith)
 used-append room s (x ∷ xs) ys e = go (s .stopped || ltb room lineRoom) (used-append (room - length (bytePrints s x)) (byteLeaves s x) xs ys) e
   where
@@ -178,10 +179,10 @@ used-append room s (x ∷ xs) ys e = go (s .stopped || ltb room lineRoom) (used-
 
     go : (t : Bool)
         → (usedOf (room - length (bytePrints s x)) (byteLeaves s x) xs ≡ length xs
-        → usedOf (room - length (bytePrints s x)) (byteLeaves s x) (xs ++ ys) ≡ length xs + usedOf left (leaves (byteLeaves s x) xs) ys)
+        → usedOf (room - length (bytePrints s x)) (byteLeaves s x) (xs ++ ys) ≡ length xs + usedOf left (stateAfter (byteLeaves s x) xs) ys)
         → cond t 0 (suc (usedOf (room - length (bytePrints s x)) (byteLeaves s x) xs)) ≡ suc (length xs)
         → cond t 0 (suc (usedOf (room - length (bytePrints s x)) (byteLeaves s x) (xs ++ ys)))
-        ≡ suc (length xs) + usedOf (room - length (bytePrints s x ++ prints (byteLeaves s x) xs)) (leaves (byteLeaves s x) xs) ys
+        ≡ suc (length xs) + usedOf (room - length (bytePrints s x ++ prints (byteLeaves s x) xs)) (stateAfter (byteLeaves s x) xs) ys
     go true rest e = absurd (omega arith)
     go false rest e = rw less (omega (arith, rest (omega arith)))
 
@@ -197,7 +198,7 @@ used-quiet room s (x ∷ xs) ys n going full e on =
 
 -- ---- a fed bar, by the verdict of its feed
 module _ (b : BarBox) (bar : Bar) (o : Outcome) (e : o ≡ fedOf b (pricesOf (bar ∷ [])) rowBytes) where
-  pub fed-refused : (r : Refusal) → o .verdict ≡ Denied r → fedStep b bar ≡ record { printed = refusalLine (b .count + 1) r; after = b; stops = true }
+  pub fed-refused : (r : Refusal) → o .verdict ≡ Denied r → fedStep b bar ≡ refusedStep b (By r)
   unfolding fedStep
   fed-refused r d = rw (← e, d)
 
@@ -222,10 +223,10 @@ module _ (s : State) (chunk : List ℕ) (k : ℕ) (going : s .stopped ≡ false)
   with-line inside = rw is (with-feed chunk (rw is at inside))
 
   pub line-used : k < length chunk
-      → (leaves s (take (k + 1) chunk) ≡ ended (grown s (take k chunk))) × (prints s (take (k + 1) chunk) ≡ stepOf (s .box) (keptLine (s .line ++ take k chunk)) .printed)
+      → (stateAfter s (take (k + 1) chunk) ≡ ended (grown s (take k chunk))) × (prints s (take (k + 1) chunk) ≡ lineStep (s .box) (keptLine (s .line ++ take k chunk)) .printed)
   line-used inside = (rw (with-line inside) (line-leaves s going (take k chunk) alone), rw (with-line inside) (line-prints s going (take k chunk) alone))
 
-  pub rest-used : 1 ≤ k → k ≤ length chunk → (leaves s (take k chunk) ≡ grown s (take k chunk)) × (prints s (take k chunk) ≡ [])
+  pub rest-used : 1 ≤ k → k ≤ length chunk → (stateAfter s (take k chunk) ≡ grown s (take k chunk)) × (prints s (take k chunk) ≡ [])
   rest-used some inside = (quiet-some s (take k chunk) going (rw (length-take-le k chunk inside) some) alone, quiet-prints s (take k chunk) going alone)
 
   -- all of them are taken in
@@ -241,11 +242,8 @@ module _ (s : State) (chunk : List ℕ) (k : ℕ) (going : s .stopped ≡ false)
     rest-taken inside = omega (arith, rw append-nil at (used-quiet room s (take k chunk) [] 0 going full alone (λ s' g. refl)), length-take-le k chunk inside)
 
 -- ---- the input's end
-true-false : true ≡ false → ⊥
-true-false e = let y : _≡_ {A = ℕ} 0 1 = ap (λ (t : Bool). cond t 0 1) e in omega arith
-
 module _ (s : State) where
-  pub end-prints : s .stopped ≡ false → eqb (length (s .line)) 0 ≡ false → endPrints s ≡ stepOf (s .box) (s .line) .printed
+  pub end-prints : s .stopped ≡ false → eqb (length (s .line)) 0 ≡ false → endPrints s ≡ lineStep (s .box) (s .line) .printed
   unfolding endPrints
   end-prints going some = rw (going, some)
 
@@ -253,11 +251,11 @@ module _ (s : State) where
   unfolding endPrints
   end-quiet n e = go (leb lineRoom n) (s .stopped) (eqb (length (s .line)) 0) e
     where
-      go : (a b c : Bool) → ((a && not b) && not c) ≡ false → cond a (cond (b || c) [] (stepOf (s .box) (s .line) .printed)) [] ≡ []
+      go : (a b c : Bool) → ((a && not b) && not c) ≡ false → cond a (cond (b || c) [] (lineStep (s .box) (s .line) .printed)) [] ≡ []
       go false b c e = refl
       go true true c e = refl
       go true false true e = refl
-      go true false false e = absurd (true-false e)
+      go true false false e = absurd (true≢false e)
 
 -- ---- a loop's four tests
 pub guards : (a b c d : Bool) → (((a && b) && c) && d) ≡ true → (a ≡ true) × (b ≡ true) × (c ≡ true) × (d ≡ true)
@@ -292,11 +290,11 @@ module _ (s : State) (chunk : List ℕ) (used room written len : ℕ) where
       go false false true x y z = used-none (len - written) s (drop used chunk) (rw (y, z))
       go false false false x y z =
           let enough : lineRoom ≤ len - written = ltb-false (len - written) lineRoom z in
-          absurd (true-false (sym (would-go used (length chunk) room written (len - room) (s .stopped) (leb-false (length chunk) used x) y (omega arith) (omega arith)) ∙ e))
+          absurd (true≢false (sym (would-go used (length chunk) room written (len - room) (s .stopped) (leb-false (length chunk) used x) y (omega arith) (omega arith)) ∙ e))
 
 -- ---- n bytes of a chunk more, after u of them
-module _ (s s' : State) (chunk : List ℕ) (u n : ℕ) (here : s' ≡ leaves s (take u chunk)) where
-  pub turn-leaves : leaves s (take (u + n) chunk) ≡ leaves s' (take n (drop u chunk))
+module _ (s s' : State) (chunk : List ℕ) (u n : ℕ) (here : s' ≡ stateAfter s (take u chunk)) where
+  pub turn-leaves : stateAfter s (take (u + n) chunk) ≡ stateAfter s' (take n (drop u chunk))
   turn-leaves = rw (take-add u n chunk, leaves-append s (take u chunk) (take n (drop u chunk)), here)
 
   pub turn-prints : prints s (take (u + n) chunk) ≡ prints s (take u chunk) ++ prints s' (take n (drop u chunk))
@@ -310,7 +308,7 @@ module _ (s s' : State) (chunk : List ℕ) (u n : ℕ) (here : s' ≡ leaves s (
 
 -- and none more
 module _ (s : State) (chunk : List ℕ) (u len : ℕ) where
-  pub used-all : u ≤ length chunk → usedOf len s (take u chunk) ≡ u → usedOf (len - length (prints s (take u chunk))) (leaves s (take u chunk)) (drop u chunk) ≡ 0
+  pub used-all : u ≤ length chunk → usedOf len s (take u chunk) ≡ u → usedOf (len - length (prints s (take u chunk))) (stateAfter s (take u chunk)) (drop u chunk) ≡ 0
       → usedOf len s chunk ≡ u
   used-all inside e none =
       let size = length-take-le u chunk inside in

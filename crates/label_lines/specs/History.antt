@@ -11,19 +11,24 @@ use Rattle.recognisers.specs.Threshold.{standardSet}
 use Rattle.bar_box.specs.Sheet.{rowOf}
 use Rattle.text.specs.declared.line_text.Line.{Line}
 use Rattle.text.specs.declared.line_text.Line.the-variants.{Prices, BadShape, BadPrice}
-use Rattle.label_lines.specs.Output.{rowLines, refusalLine, badPriceLine}
+use Rattle.label_lines.specs.declared.output.Stop.the-variants.{By, Price}
+use Rattle.label_lines.specs.Output.{rowLines, refusalLine}
 
 -- the lines of a history's newest bar: its ordinal is the history's count, its row is over the whole history
 abbrev pub newestLines : List Bar → List ℕ
 newestLines history = rowLines (length history) 0 (rowOf standardSet (length history) history)
 
--- what lines print that follow a history: each bar, up to 1,000,000 of them, the rows over the history up to it; the first line that is
--- none, or is one more, its refusal, after which nothing is printed
-unfoldable pub historyPrints : List Bar → List Line → List ℕ
-historyPrints history [] = []
-historyPrints history (Prices bar ∷ lines) =
+-- what lines print that follow a history: something for each bar, up to 1,000,000 of them, and at the end; the first line that is none, or
+-- is one more, its refusal, after which nothing is printed
+unfoldable pub linesPrint : (List Bar → List ℕ) → (List Bar → List ℕ) → List Bar → List Line → List ℕ
+linesPrint each end history [] = end history
+linesPrint each end history (Prices bar ∷ lines) =
     cond (ltb (length history) mostBars)
-    (newestLines (history ++ (bar ∷ [])) ++ historyPrints (history ++ (bar ∷ [])) lines)
-    (refusalLine (length history + 1) refusal.TooManyBars)
-historyPrints history (BadShape ∷ lines) = refusalLine (length history + 1) refusal.BadShape
-historyPrints history (BadPrice place ∷ lines) = badPriceLine (length history + 1) place
+    (each (history ++ (bar ∷ [])) ++ linesPrint each end (history ++ (bar ∷ [])) lines)
+    (refusalLine (length history + 1) (By refusal.TooManyBars))
+linesPrint each end history (BadShape ∷ lines) = refusalLine (length history + 1) (By refusal.BadShape)
+linesPrint each end history (BadPrice place ∷ lines) = refusalLine (length history + 1) (Price place)
+
+-- this program prints the rows of each bar, over the history up to it
+abbrev pub historyPrints : List Bar → List Line → List ℕ
+historyPrints = linesPrint newestLines (λ h. [])

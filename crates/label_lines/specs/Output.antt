@@ -14,13 +14,14 @@ use Rattle.recognisers.specs.Number.{recognisers, rowBytes}
 use Rattle.recognisers.specs.Refusal.{refusalNumber}
 use Rattle.recognisers.specs.Threshold.{standardSet}
 use Rattle.bar_box.specs.declared.boxes.BarBox.{BarBox}
-use Rattle.bar_box.specs.declared.boxes.Outcome.{Outcome}
 use Rattle.bar_box.specs.Box.{freshBox, fedOf, sheetOf}
 use Rattle.text.specs.declared.line_text.Line.{Line}
 use Rattle.text.specs.declared.line_text.Line.the-variants.{Prices, BadShape, BadPrice}
-use Rattle.text.specs.LabelText.{bytesOf}
-use Rattle.text.specs.LineText.{comma, lineOf, verdictOf}
+use Rattle.label_texts.specs.LabelText.{bytesOf}
+use Rattle.text.specs.LineText.{comma, lineOf}
 use Rattle.text.specs.Lines.{lineFeed, linesOf}
+use Rattle.label_lines.specs.declared.output.Stop.{Stop}
+use Rattle.label_lines.specs.declared.output.Stop.the-variants.{Going, By, Price}
 
 -- ---- lines of output
 
@@ -47,9 +48,19 @@ rowLines ordinal k [] = []
 rowLines ordinal k (v1 ∷ []) = []
 rowLines ordinal k (v1 ∷ v2 ∷ codes) = cond (eqb v1 0) [] (rowLine ordinal k v1 v2) ++ rowLines ordinal (k + 1) codes
 
--- the room for what a line may print: a row for each recogniser, of at most 74 bytes
+-- the most bytes of a row, of a count's line and of a refusal's
+abbrev pub longestRow : ℕ
+longestRow = 74
+
+abbrev pub longestCount : ℕ
+longestCount = 58
+
+abbrev pub longestRefusal : ℕ
+longestRefusal = 71
+
+-- the room for what a line may print: a row for each recogniser
 abbrev pub lineRoom : ℕ
-lineRoom = recognisers * 74
+lineRoom = recognisers * longestRow
 
 -- the bytes of the word refused
 abbrev pub refusedWord : List ℕ
@@ -59,13 +70,18 @@ refusedWord = 114 ∷ 101 ∷ 102 ∷ 117 ∷ 115 ∷ 101 ∷ 100 ∷ []
 unfoldable pub refusalPart : ℕ → Refusal → ℕ → List ℕ
 refusalPart ordinal r end = field refusedWord comma ++ field (numeral ordinal) comma ++ field (numeral (refusalNumber r)) end
 
--- a refusal prints a line such as refused,3,8: the line's ordinal, the refusal
-abbrev pub refusalLine : ℕ → Refusal → List ℕ
-refusalLine ordinal r = refusalPart ordinal r lineFeed
+-- whether no line was refused
+abbrev pub goesOn : Stop → Bool
+goesOn Going = true
+goesOn (By r) = false
+goesOn (Price place) = false
 
--- for a bad price the line gains at its end the field's place: refused,3,9,2
-unfoldable pub badPriceLine : ℕ → ℕ → List ℕ
-badPriceLine ordinal place = refusalPart ordinal refusal.BadPrice comma ++ field (numeral place) lineFeed
+-- a refusal prints a line such as refused,3,8: the line's ordinal, the refusal; for a bad price it gains at its end the field's place:
+-- refused,3,9,2
+unfoldable pub refusalLine : ℕ → Stop → List ℕ
+refusalLine ordinal Going = []
+refusalLine ordinal (By r) = refusalPart ordinal r lineFeed
+refusalLine ordinal (Price place) = refusalPart ordinal refusal.BadPrice comma ++ field (numeral place) lineFeed
 
 -- the recogniser, a label, and how many bars got it
 unfoldable pub countLine : ℕ → ℕ → ℕ → List ℕ
@@ -83,10 +99,14 @@ pub record Step : Type 0 where
   pub after : BarBox
   pub stops : Bool
 
--- an accepted bar prints its rows, a refused one the refusal, and stops; the ordinal is one more than the bars before
+-- a refused line leaves the box; its ordinal is one more than the bars before
+abbrev pub refusedStep : BarBox → Stop → Step
+refusedStep b stop = record { printed = refusalLine (b .count + 1) stop; after = b; stops = true }
+
+-- an accepted bar prints its rows, a refused one the refusal, and stops
 abbrev pub judgedOf : Verdict → BarBox → List ℕ → BarBox → Step
 judgedOf Accepted b sheet after = record { printed = rowLines (b .count + 1) 0 sheet; after = after; stops = false }
-judgedOf (Denied r) b sheet after = record { printed = refusalLine (b .count + 1) r; after = b; stops = true }
+judgedOf (Denied r) b sheet after = refusedStep b (By r)
 
 -- a bar is fed by itself, with a sheet for its row
 unfoldable pub fedStep : BarBox → Bar → Step
@@ -96,18 +116,18 @@ fedStep b bar =
 -- a line is read as text first, then fed as one bar
 abbrev pub readStep : BarBox → Line → Step
 readStep b (Prices bar) = fedStep b bar
-readStep b BadShape = judgedOf (verdictOf BadShape) b [] b
-readStep b (BadPrice place) = record { printed = badPriceLine (b .count + 1) place; after = b; stops = true }
+readStep b BadShape = refusedStep b (By refusal.BadShape)
+readStep b (BadPrice place) = refusedStep b (Price place)
 
-unfoldable pub stepOf : BarBox → List ℕ → Step
-stepOf b line = readStep b (lineOf line)
+unfoldable pub lineStep : BarBox → List ℕ → Step
+lineStep b line = readStep b (lineOf line)
 
 -- ---- the program
 
 -- what lines print, one after the other, up to the first that stops
 unfoldable pub printedOf : BarBox → List (List ℕ) → List ℕ
 printedOf b [] = []
-printedOf b (line ∷ lines) = stepOf b line .printed ++ cond (stepOf b line .stops) [] (printedOf (stepOf b line .after) lines)
+printedOf b (line ∷ lines) = lineStep b line .printed ++ cond (lineStep b line .stops) [] (printedOf (lineStep b line .after) lines)
 
 -- what an input prints, with the standard set
 abbrev pub outputOf : List ℕ → List ℕ

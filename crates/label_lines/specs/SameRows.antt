@@ -9,7 +9,8 @@ use Rattle.text.specs.declared.line_text.Line.{Line}
 use Rattle.text.specs.declared.line_text.Line.the-variants.{Prices, BadShape, BadPrice}
 use Rattle.text.specs.LineText.{lineOf}
 use Rattle.text.specs.Lines.{linesOf}
-use Rattle.label_lines.specs.Output.{refusalLine, badPriceLine, outputOf}
+use Rattle.label_lines.specs.declared.output.Stop.the-variants.{By, Price}
+use Rattle.label_lines.specs.Output.{refusalLine, outputOf}
 use Rattle.label_lines.specs.History.{historyPrints}
 
 -- a line of which it is said no more than 8
@@ -26,7 +27,7 @@ outputBy8 input = historyPrints [] (map by8 (map lineOf (linesOf input)))
 abbrev pub Same : List ℕ → List ℕ → Type 0
 Same now then =
     (now ≡ then)
-    ⊎ ((rows : List ℕ) × (ordinal : ℕ) × (place : ℕ) × (now ≡ rows ++ badPriceLine ordinal place) × (then ≡ rows ++ refusalLine ordinal refusal.BadShape))
+    ⊎ ((rows : List ℕ) × (ordinal : ℕ) × (place : ℕ) × (now ≡ rows ++ refusalLine ordinal (Price place)) × (then ≡ rows ++ refusalLine ordinal (By refusal.BadShape)))
 
 abbrev pub SameRows : List ℕ → Type 0
 SameRows input = Same (outputOf input) (outputBy8 input)

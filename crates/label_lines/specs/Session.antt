@@ -11,7 +11,7 @@ use Rattle.bar_box.specs.Box.{freshBox}
 use Rattle.text.specs.Lines.{lineFeed, keptLine, content, partialOf}
 use Rattle.label_lines.specs.declared.session.Session.{Session}
 use Rattle.label_lines.specs.declared.session.Absorbed.{Absorbed}
-use Rattle.label_lines.specs.Output.{lineRoom, stepOf}
+use Rattle.label_lines.specs.Output.{lineRoom, lineStep}
 
 -- the line that has begun, of which the first bytes are kept, the box, and whether a line was refused
 pub record State : Type 0 where
@@ -31,7 +31,7 @@ freshState = record { line = []; box = freshBox standardSet; stopped = false }
 
 -- the line has ended
 abbrev pub ended : State → State
-ended s = record { line = []; box = stepOf (s .box) (s .line) .after; stopped = stepOf (s .box) (s .line) .stops }
+ended s = record { line = []; box = lineStep (s .box) (s .line) .after; stopped = lineStep (s .box) (s .line) .stops }
 
 -- the line has bytes more
 abbrev pub grown : State → List ℕ → State
@@ -42,12 +42,12 @@ unfoldable pub byteLeaves : State → ℕ → State
 byteLeaves s b = cond (s .stopped) s (cond (eqb b lineFeed) (ended s) (grown s (b ∷ [])))
 
 unfoldable pub bytePrints : State → ℕ → List ℕ
-bytePrints s b = cond (s .stopped) [] (cond (eqb b lineFeed) (stepOf (s .box) (s .line) .printed) [])
+bytePrints s b = cond (s .stopped) [] (cond (eqb b lineFeed) (lineStep (s .box) (s .line) .printed) [])
 
 -- the same of a run of bytes
-unfoldable pub leaves : State → List ℕ → State
-leaves s [] = s
-leaves s (b ∷ bytes) = leaves (byteLeaves s b) bytes
+unfoldable pub stateAfter : State → List ℕ → State
+stateAfter s [] = s
+stateAfter s (b ∷ bytes) = stateAfter (byteLeaves s b) bytes
 
 unfoldable pub prints : State → List ℕ → List ℕ
 prints s [] = []
@@ -59,34 +59,29 @@ usedOf room s [] = 0
 usedOf room s (b ∷ bytes) =
     cond (s .stopped || ltb room lineRoom) 0 (suc (usedOf (room - length (bytePrints s b)) (byteLeaves s b) bytes))
 
-abbrev pub takenOf : ℕ → State → List ℕ → List ℕ
-takenOf room s bytes = take (usedOf room s bytes) bytes
+abbrev pub takenBytes : ℕ → State → List ℕ → List ℕ
+takenBytes room s bytes = take (usedOf room s bytes) bytes
 
 -- a session after the bytes that are taken in, into a buffer of this length
 abbrev pub absorbedOf : Session → List ℕ → ℕ → Absorbed
 absorbedOf st bytes room =
     record {
-      session = sessionOf (leaves (stateOf st) (takenOf room (stateOf st) bytes));
+      session = sessionOf (stateAfter (stateOf st) (takenBytes room (stateOf st) bytes));
       used = usedOf room (stateOf st) bytes;
-      written = length (prints (stateOf st) (takenOf room (stateOf st) bytes));
+      written = length (prints (stateOf st) (takenBytes room (stateOf st) bytes));
     }
 
 -- what the input's end prints: a line that has begun ends there
 unfoldable pub endPrints : State → List ℕ
-endPrints s = cond (s .stopped || eqb (length (s .line)) 0) [] (stepOf (s .box) (s .line) .printed)
+endPrints s = cond (s .stopped || eqb (length (s .line)) 0) [] (lineStep (s .box) (s .line) .printed)
 
 -- what an input prints that comes in several reads
 unfoldable pub readsPrint : State → List (List ℕ) → List ℕ
 readsPrint s [] = endPrints s
-readsPrint s (bytes ∷ reads) = prints s bytes ++ readsPrint (leaves s bytes) reads
+readsPrint s (bytes ∷ reads) = prints s bytes ++ readsPrint (stateAfter s bytes) reads
 
 -- the parts of an input that are taken in one after the other, into buffers of these lengths
 unfoldable pub partsOf : State → List ℕ → List ℕ → List (List ℕ)
 partsOf s [] input = []
 partsOf s (room ∷ rooms) input =
-    takenOf room s input ∷ partsOf (leaves s (takenOf room s input)) rooms (drop (usedOf room s input) input)
-
--- the bytes of several reads as one input
-unfoldable pub joined : List (List ℕ) → List ℕ
-joined [] = []
-joined (bytes ∷ reads) = bytes ++ joined reads
+    takenBytes room s input ∷ partsOf (stateAfter s (takenBytes room s input)) rooms (drop (usedOf room s input) input)

@@ -5,5 +5,6 @@
 pub mod output;
 pub mod session;
 
+pub use output::Stop;
 pub use session::Absorbed;
 pub use session::Session;

@@ -6,14 +6,41 @@ ghost use Prim.Native.Nat.{_+_, _-_, _≤_};
 ghost use lib.Dec.{eqb};
 ghost use lib.ListN.{length};
 ghost use Rattle.measures.specs.Bar.{overlay};
-ghost use Rattle.text.specs.LabelText.{bytesOf};
-ghost use Rattle.label_lines.specs.Output.{numeral, field, rowLine, rowLines, lineRoom, refusalPart, refusalLine, badPriceLine, countLine, lineIn};
+ghost use Rattle.recognisers.specs.Number.{rowBytes};
+ghost use Rattle.label_texts.specs.LabelText.{bytesOf};
+ghost use Rattle.label_lines.specs.Output.{numeral, field, rowLine, rowLines, longestRow, longestCount, longestRefusal, lineRoom, goesOn, refusalPart, refusalLine, countLine, lineIn};
 use measures::least;
 use recognisers::Refusal;
 use recognisers::call::refusal_number;
+use recognisers::counts::RECOGNISERS;
 use text::label_text;
 use text::line_text::COMMA;
 use text::lines::LINE_FEED;
+
+// The most bytes of a row: two numbers of at most 20 digits, two labels of at most 15 bytes, and what ends each; of a count, which has a
+// label less; and of a refusal: the word, three numbers, and what ends each.
+pub(crate) const LONGEST_ROW: usize = 74;
+
+pub const LONGEST_COUNT: usize = 58;
+
+const LONGEST_REFUSAL: usize = 71;
+
+// Whether a line was refused: by a refusal, or by 9 with the field's place.
+pub enum Stop {
+    Going,
+    By(Refusal),
+    Price(u8),
+}
+
+pub fn goes_on(stop: Stop) -> bool
+    ensures { λ r. ⌜ r ≡ goesOn stop ⌝ }
+{
+    match stop {
+        Stop::Going => true,
+        Stop::By(_) => false,
+        Stop::Price(_) => false,
+    }
+}
 
 // Bytes and the one that ends them.
 fn write_field(s: &[u8], end: u8, out: &mut [u8], at: usize) -> usize
@@ -48,9 +75,8 @@ fn write_label(code: u8, end: u8, out: &mut [u8], at: usize) -> usize
     write_field(&bytes[..n], end, out, at)
 }
 
-// A row takes at most 74 bytes: two numbers of at most 20 digits, two labels of at most 15 bytes, and what ends each.
 fn write_row(ordinal: u64, k: u64, v1: u8, v2: u8, out: &mut [u8], at: usize) -> usize
-    requires { ⌜ at + 74 ≤ length (now out) ⌝ }
+    requires { ⌜ at + longestRow ≤ length (now out) ⌝ }
     ensures { λ r. ⌜ (r ≡ at + length (rowLine ordinal k v1 v2)) × (now (out .exit) ≡ overlay (now (out .entry)) at (rowLine ordinal k v1 v2)) ⌝ }
 {
     let a = write_number(ordinal, COMMA, out, at);
@@ -61,7 +87,7 @@ fn write_row(ordinal: u64, k: u64, v1: u8, v2: u8, out: &mut [u8], at: usize) ->
 
 // The line of one recogniser, if its v1 isn't 其他.
 fn write_pair(ordinal: u64, k: u64, v1: u8, v2: u8, out: &mut [u8], at: usize) -> usize
-    requires { ⌜ at + 74 ≤ length (now out) ⌝ }
+    requires { ⌜ at + longestRow ≤ length (now out) ⌝ }
     ensures { λ r. ⌜ (r ≡ at + length (cond (eqb v1 0) [] (rowLine ordinal k v1 v2))) × (now (out .exit) ≡ overlay (now (out .entry)) at (cond (eqb v1 0) [] (rowLine ordinal k v1 v2))) ⌝ }
 {
     if v1 == 0 {
@@ -71,14 +97,14 @@ fn write_pair(ordinal: u64, k: u64, v1: u8, v2: u8, out: &mut [u8], at: usize) -
     }
 }
 
-// The lines of a bar whose row the sheet has: at most eighteen times 74 bytes.
+// The lines of a bar whose row the sheet has.
 pub(crate) fn write_rows(ordinal: u64, sheet: &[u8], out: &mut [u8], at: usize) -> usize
-    requires { ⌜ (length (now sheet) ≡ 36) × (at + lineRoom ≤ length (now out)) ⌝ }
+    requires { ⌜ (length (now sheet) ≡ rowBytes) × (at + lineRoom ≤ length (now out)) ⌝ }
     ensures { λ r. ⌜ (r ≤ at + lineRoom) × (r ≡ at + length (rowLines ordinal 0 (now (sheet .entry)))) × (now (out .exit) ≡ overlay (now (out .entry)) at (rowLines ordinal 0 (now (sheet .entry)))) ⌝ }
 {
     let mut k = 0usize;
     let mut place = at;
-    while k < 18 {
+    while k < RECOGNISERS {
         let v1 = sheet[2 * k];
         let v2 = sheet[2 * k + 1];
         place = write_pair(ordinal, k as u64, v1, v2, out, place);
@@ -98,25 +124,24 @@ fn write_part(ordinal: u64, why: Refusal, end: u8, out: &mut [u8], at: usize) ->
     write_number(refusal_number(why) as u64, end, out, b)
 }
 
-pub(crate) fn write_refusal(ordinal: u64, why: Refusal, out: &mut [u8], at: usize) -> usize
-    requires { ⌜ at + 50 ≤ length (now out) ⌝ }
-    ensures { λ r. ⌜ (r ≤ at + 50) × (r ≡ at + length (refusalLine ordinal why)) × (now (out .exit) ≡ overlay (now (out .entry)) at (refusalLine ordinal why)) ⌝ }
+// The line of a refusal, if there is one.
+pub(crate) fn write_refusal(ordinal: u64, stop: Stop, out: &mut [u8], at: usize) -> usize
+    requires { ⌜ at + longestRefusal ≤ length (now out) ⌝ }
+    ensures { λ r. ⌜ (r ≤ at + longestRefusal) × (r ≡ at + length (refusalLine ordinal stop)) × (now (out .exit) ≡ overlay (now (out .entry)) at (refusalLine ordinal stop)) ⌝ }
 {
-    write_part(ordinal, why, LINE_FEED, out, at)
+    match stop {
+        Stop::Going => at,
+        Stop::By(why) => write_part(ordinal, why, LINE_FEED, out, at),
+        Stop::Price(place) => {
+            let behind = write_part(ordinal, Refusal::BadPrice, COMMA, out, at);
+            write_number(place as u64, LINE_FEED, out, behind)
+        }
+    }
 }
 
-// The refusal of a bad price, with its field's place.
-pub(crate) fn write_bad_price(ordinal: u64, place: u8, out: &mut [u8], at: usize) -> usize
-    requires { ⌜ at + 71 ≤ length (now out) ⌝ }
-    ensures { λ r. ⌜ (r ≤ at + 71) × (r ≡ at + length (badPriceLine ordinal place)) × (now (out .exit) ≡ overlay (now (out .entry)) at (badPriceLine ordinal place)) ⌝ }
-{
-    let behind = write_part(ordinal, Refusal::BadPrice, COMMA, out, at);
-    write_number(place as u64, LINE_FEED, out, behind)
-}
-
-// The line of a count: two numbers of at most 20 digits, a label of at most 15 bytes, and what ends each.
+// The line of a count.
 fn write_count(k: u64, code: u8, count: u64, out: &mut [u8], at: usize) -> usize
-    requires { ⌜ at + 58 ≤ length (now out) ⌝ }
+    requires { ⌜ at + longestCount ≤ length (now out) ⌝ }
     ensures { λ r. ⌜ (r ≡ at + length (countLine k code count)) × (now (out .exit) ≡ overlay (now (out .entry)) at (countLine k code count)) ⌝ }
 {
     let a = write_number(k, COMMA, out, at);
@@ -128,33 +153,22 @@ fn write_count(k: u64, code: u8, count: u64, out: &mut [u8], at: usize) -> usize
 
 // The line of a count, from a place on, where 58 bytes are left.
 pub fn print_count(k: u64, code: u8, count: u64, out: &mut [u8], at: usize) -> usize
-    ensures { λ r. ⌜ (r ≡ at + length (lineIn 58 (length (now (out .entry)) - at) (countLine k code count))) × (now (out .exit) ≡ overlay (now (out .entry)) at (lineIn 58 (length (now (out .entry)) - at) (countLine k code count))) ⌝ }
+    ensures { λ r. ⌜ (r ≡ at + length (lineIn longestCount (length (now (out .entry)) - at) (countLine k code count))) × (now (out .exit) ≡ overlay (now (out .entry)) at (lineIn longestCount (length (now (out .entry)) - at) (countLine k code count))) ⌝ }
 {
     let left = out.len() - least(at, out.len());
-    if 58 <= left {
+    if LONGEST_COUNT <= left {
         write_count(k, code, count, out, at)
     } else {
         at
     }
 }
 
-// The line of a refusal, at the front of 50 bytes or more.
-pub fn print_refusal(ordinal: u64, why: Refusal, out: &mut [u8]) -> usize
-    ensures { λ r. ⌜ (r ≤ length (now (out .entry))) × (r ≡ length (lineIn 50 (length (now (out .entry))) (refusalLine ordinal why))) × (now (out .exit) ≡ overlay (now (out .entry)) 0 (lineIn 50 (length (now (out .entry))) (refusalLine ordinal why))) ⌝ }
+// The line of a refusal, at the front of 71 bytes or more.
+pub fn print_refusal(ordinal: u64, stop: Stop, out: &mut [u8]) -> usize
+    ensures { λ r. ⌜ (r ≤ length (now (out .entry))) × (r ≡ length (lineIn longestRefusal (length (now (out .entry))) (refusalLine ordinal stop))) × (now (out .exit) ≡ overlay (now (out .entry)) 0 (lineIn longestRefusal (length (now (out .entry))) (refusalLine ordinal stop))) ⌝ }
 {
-    if 50 <= out.len() {
-        write_refusal(ordinal, why, out, 0)
-    } else {
-        0
-    }
-}
-
-// The line of a bad price, at the front of 71 bytes or more.
-pub fn print_bad_price(ordinal: u64, place: u8, out: &mut [u8]) -> usize
-    ensures { λ r. ⌜ (r ≤ length (now (out .entry))) × (r ≡ length (lineIn 71 (length (now (out .entry))) (badPriceLine ordinal place))) × (now (out .exit) ≡ overlay (now (out .entry)) 0 (lineIn 71 (length (now (out .entry))) (badPriceLine ordinal place))) ⌝ }
-{
-    if 71 <= out.len() {
-        write_bad_price(ordinal, place, out, 0)
+    if LONGEST_REFUSAL <= out.len() {
+        write_refusal(ordinal, stop, out, 0)
     } else {
         0
     }

@@ -7,22 +7,27 @@ ghost use Prim.Native.Nat.{_+_, _-_, _≤_};
 ghost use lib.ListN.{length, take};
 ghost use Rattle.measures.specs.Bar.{overlay};
 ghost use Rattle.text.specs.Lines.{content};
-ghost use Rattle.label_lines.specs.Output.{lineRoom, refusalLine, badPriceLine, fedStep, stepOf};
-ghost use Rattle.label_lines.specs.Session.{stateOf, sessionOf, freshState, leaves, prints, usedOf, takenOf, absorbedOf, endPrints};
+ghost use Rattle.label_lines.specs.Output.{lineRoom, refusalLine, fedStep, lineStep};
+ghost use Rattle.label_lines.specs.Session.{stateOf, sessionOf, freshState, stateAfter, prints, usedOf, takenBytes, absorbedOf, endPrints};
 use crate::output;
+use crate::output::LONGEST_ROW;
+use crate::output::Stop;
 use bar_box::BarBox;
 use measures::Bar;
 use measures::least;
 use recognisers::Refusal;
 use recognisers::Thresholds;
 use recognisers::call::Verdict;
+use recognisers::counts::RECOGNISERS;
+use recognisers::counts::ROW_BYTES;
 use text::Line;
 use text::Partial;
 use text::lines;
 use text::lines::LINE_FEED;
+use text::read_partial;
 
-// The room for what a line may print: eighteen rows.
-const ROOM: usize = 1332;
+// The room for what a line may print: a row for each recogniser.
+pub const ROOM: usize = RECOGNISERS * LONGEST_ROW;
 
 // The line that has begun, the box, and whether a line was refused.
 pub struct Session {
@@ -60,26 +65,12 @@ pub fn begin() -> Session
     }
 }
 
-fn refuse(held: BarBox, why: Refusal, out: &mut [u8], at: usize) -> Stepped
+fn refuse(held: BarBox, stop: Stop, out: &mut [u8], at: usize) -> Stepped
     requires { ⌜ at + lineRoom ≤ length (now out) ⌝ }
-    ensures { λ r. ⌜ (r .held ≡ held) × (r .stops ≡ true) × (r .at ≤ at + lineRoom) × (r .at ≡ at + length (refusalLine (held .count + 1) why)) × (now (out .exit) ≡ overlay (now (out .entry)) at (refusalLine (held .count + 1) why)) ⌝ }
+    ensures { λ r. ⌜ (r .held ≡ held) × (r .stops ≡ true) × (r .at ≤ at + lineRoom) × (r .at ≡ at + length (refusalLine (held .count + 1) stop)) × (now (out .exit) ≡ overlay (now (out .entry)) at (refusalLine (held .count + 1) stop)) ⌝ }
 {
     let ordinal = held.count as u64 + 1;
-    let end = output::write_refusal(ordinal, why, out, at);
-    Stepped {
-        held,
-        stops: true,
-        at: end,
-    }
-}
-
-// The refusal of a bad price in the field at a place.
-fn refuse_price(held: BarBox, place: u8, out: &mut [u8], at: usize) -> Stepped
-    requires { ⌜ at + lineRoom ≤ length (now out) ⌝ }
-    ensures { λ r. ⌜ (r .held ≡ held) × (r .stops ≡ true) × (r .at ≤ at + lineRoom) × (r .at ≡ at + length (badPriceLine (held .count + 1) place)) × (now (out .exit) ≡ overlay (now (out .entry)) at (badPriceLine (held .count + 1) place)) ⌝ }
-{
-    let ordinal = held.count as u64 + 1;
-    let end = output::write_bad_price(ordinal, place, out, at);
+    let end = output::write_refusal(ordinal, stop, out, at);
     Stepped {
         held,
         stops: true,
@@ -94,13 +85,13 @@ fn feed_bar(held: BarBox, bar: Bar, out: &mut [u8], at: usize) -> Stepped
 {
     let ordinal = held.count as u64 + 1;
     let prices = [bar.open, bar.close, bar.high, bar.low];
-    let mut sheet = [0u8; 36];
+    let mut sheet = [0u8; ROW_BYTES];
     let fed = bar_box::feed(held, &prices, &mut sheet);
     let verdict = fed.verdict;
     // a refused feed leaves the box as it was, so that no second one is kept for it
     let after = fed.after;
     match verdict {
-        Verdict::Denied(why) => refuse(after, why, out, at),
+        Verdict::Denied(why) => refuse(after, Stop::By(why), out, at),
         Verdict::Accepted => {
             let end = output::write_rows(ordinal, &sheet, out, at);
             Stepped {
@@ -115,12 +106,12 @@ fn feed_bar(held: BarBox, bar: Bar, out: &mut [u8], at: usize) -> Stepped
 // The end of a line.
 fn step(held: BarBox, line: Partial, out: &mut [u8], at: usize) -> Stepped
     requires { ⌜ at + lineRoom ≤ length (now out) ⌝ }
-    ensures { λ r. ⌜ (r .held ≡ stepOf held (content line) .after) × (r .stops ≡ stepOf held (content line) .stops) × (r .at ≤ at + lineRoom) × (r .at ≡ at + length (stepOf held (content line) .printed)) × (now (out .exit) ≡ overlay (now (out .entry)) at (stepOf held (content line) .printed)) ⌝ }
+    ensures { λ r. ⌜ (r .held ≡ lineStep held (content line) .after) × (r .stops ≡ lineStep held (content line) .stops) × (r .at ≤ at + lineRoom) × (r .at ≡ at + length (lineStep held (content line) .printed)) × (now (out .exit) ≡ overlay (now (out .entry)) at (lineStep held (content line) .printed)) ⌝ }
 {
-    match lines::read(line) {
+    match read_partial(line) {
         Line::Prices(bar) => feed_bar(held, bar, out, at),
-        Line::BadShape => refuse(held, Refusal::BadShape, out, at),
-        Line::BadPrice(place) => refuse_price(held, place, out, at),
+        Line::BadShape => refuse(held, Stop::By(Refusal::BadShape), out, at),
+        Line::BadPrice(place) => refuse(held, Stop::Price(place), out, at),
     }
 }
 
@@ -128,7 +119,7 @@ fn step(held: BarBox, line: Partial, out: &mut [u8], at: usize) -> Stepped
 fn advance(st: Session, chunk: &[u8], out: &mut [u8], at: usize) -> Absorbed
     requires { ⌜ (st .stopped ≡ false) × (1 ≤ length (now chunk)) × (at + lineRoom ≤ length (now out)) ⌝ }
     ensures { λ r. ⌜ (1 ≤ r .used) × (r .used ≤ length (now (chunk .entry))) × (usedOf (length (now (out .entry)) - at) (stateOf st) (take (r .used) (now (chunk .entry))) ≡ r .used) ⌝ }
-    ensures { λ r. ⌜ (r .session ≡ sessionOf (leaves (stateOf st) (take (r .used) (now (chunk .entry))))) × (r .written ≤ at + lineRoom) × (r .written ≡ at + length (prints (stateOf st) (take (r .used) (now (chunk .entry))))) × (now (out .exit) ≡ overlay (now (out .entry)) at (prints (stateOf st) (take (r .used) (now (chunk .entry))))) ⌝ }
+    ensures { λ r. ⌜ (r .session ≡ sessionOf (stateAfter (stateOf st) (take (r .used) (now (chunk .entry))))) × (r .written ≤ at + lineRoom) × (r .written ≡ at + length (prints (stateOf st) (take (r .used) (now (chunk .entry))))) × (now (out .exit) ≡ overlay (now (out .entry)) at (prints (stateOf st) (take (r .used) (now (chunk .entry))))) ⌝ }
 {
     let k = lines::piece_end(LINE_FEED, chunk);
     let begun = st.line;
@@ -163,7 +154,7 @@ fn advance(st: Session, chunk: &[u8], out: &mut [u8], at: usize) -> Absorbed
 // lent, no line was refused before and the buffer has that room, at least one byte is used (SessionLaws.used-some).
 pub fn absorb(st: Session, chunk: &[u8], out: &mut [u8]) -> Absorbed
     ensures { λ r. ⌜ (r ≡ absorbedOf st (now (chunk .entry)) (length (now (out .entry)))) × (r .written ≤ length (now (out .entry))) ⌝ }
-    ensures { λ r. ⌜ now (out .exit) ≡ overlay (now (out .entry)) 0 (prints (stateOf st) (takenOf (length (now (out .entry))) (stateOf st) (now (chunk .entry)))) ⌝ }
+    ensures { λ r. ⌜ now (out .exit) ≡ overlay (now (out .entry)) 0 (prints (stateOf st) (takenBytes (length (now (out .entry))) (stateOf st) (now (chunk .entry)))) ⌝ }
 {
     let room = least(ROOM, out.len());
     let limit = out.len() - room;

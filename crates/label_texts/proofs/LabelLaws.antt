@@ -1,7 +1,7 @@
 -- Laws of the labels' bytes: their table, their texts, and the place of bytes in the table. Assumes nothing.
 use Prim.Native.Nat.{ℕ, zero, suc, _+_, _-_, _<_, _≤_}
 use mathlib.Core.Bool.{Bool, true, false, _&&_}
-use mathlib.Core.List.{List, [], _∷_, map}
+use mathlib.Core.List.{List, [], _∷_}
 use mathlib.Core.Path.{_≡_, refl}
 use native.Mathlib.Nat.{add-zero, le-of-suc-le-suc, not-suc-le-zero}
 use native.Mathlib.Decide.{decLe}
@@ -11,7 +11,7 @@ use borrow.Author.Tests.{leb-true, eqb-true, eq-eqb}
 use lib.Dec.{eqb, leb}
 use lib.ListN.{length, getD, take, drop, replicate, length-append, length-replicate, List·getD-eq-default}
 use lib.Seq.{drop-cons, take-at}
-use Rattle.label_texts.specs.LabelText.{labels, bytesOf, mostBytes, textOf, same, placeIn}
+use Rattle.label_texts.specs.LabelText.{labelTexts, bytesOf, mostBytes, textOf, same, placeIn}
 use Rattle.rule_types.proofs.ListLaws.{both}
 
 -- ---- the same bytes
@@ -64,8 +64,8 @@ every-at test i (l ∷ ls) (suc k) e h =
     let next : i + suc k ≡ suc i + k = omega arith in
     rw next (every-at test (suc i) ls k (both (test i l) (every test (suc i) ls) e .1) (le-of-suc-le-suc h))
 
-pub no-bytes : (code : ℕ) → length labels ≤ code → bytesOf code ≡ []
-no-bytes code h = List·getD-eq-default labels [] h
+pub no-bytes : (code : ℕ) → length labelTexts ≤ code → bytesOf code ≡ []
+no-bytes code h = List·getD-eq-default labelTexts [] h
 
 -- no label has more than 15 bytes
 abbrev is-short : ℕ → List ℕ → Bool
@@ -73,9 +73,9 @@ is-short i l = leb (length l) mostBytes
 
 pub short : (code : ℕ) → length (bytesOf code) ≤ mostBytes
 short code =
-    elim (decLe (length labels) code) [
+    elim (decLe (length labelTexts) code) [
       | yes h ↦ rw (no-bytes code h) (omega arith)
-      | no g ↦ leb-true (length (bytesOf code)) mostBytes (every-at is-short 0 labels code refl (omega arith))
+      | no g ↦ leb-true (length (bytesOf code)) mostBytes (every-at is-short 0 labelTexts code refl (omega arith))
     ]
 
 -- ---- what a code's text holds

@@ -8,19 +8,20 @@ use native.Mathlib.Omega.{arith}
 use borrow.Author.Tests.{eqb-true, le-leb}
 use lib.Dec.{eqb}
 use lib.ListN.{length, getD}
-use Rattle.label_texts.specs.LabelText.{labels, bytesOf, textOf, same, placeIn, codeOfBytes, codeOfText}
+use Rattle.rule_types.specs.Number.{labels}
+use Rattle.label_texts.specs.LabelText.{labelTexts, bytesOf, mostBytes, textOf, same, placeIn, codeOfBytes, codeOfText}
 use Rattle.label_texts.proofs.LabelLaws.{same-eq, every, every-at, no-bytes, short, text-len, text-bytes}
 
 -- each label stands at its place, at no place before
 abbrev in-place : ℕ → List ℕ → Bool
-in-place i l = eqb (placeIn labels l) i
+in-place i l = eqb (placeIn labelTexts l) i
 
-all-in-place : every in-place 0 labels ≡ true
+all-in-place : every in-place 0 labelTexts ≡ true
 unfolding placeIn same
 all-in-place = refl
 
-code-of-label : (code : ℕ) → code < length labels → codeOfBytes (bytesOf code) ≡ code
-code-of-label code h = omega (arith, eqb-true (codeOfBytes (bytesOf code)) (0 + code) (every-at in-place 0 labels code all-in-place h))
+code-of-label : (code : ℕ) → code < length labelTexts → codeOfBytes (bytesOf code) ≡ code
+code-of-label code h = omega (arith, eqb-true (codeOfBytes (bytesOf code)) (0 + code) (every-at in-place 0 labelTexts code all-in-place h))
 
 -- a place in a list of labels is at most the list's length; below it, the bytes stand there
 module _ (s : List ℕ) where
@@ -47,25 +48,25 @@ module _ (s : List ℕ) where
 
 pub record RoundTrip : Type 0 where
   -- from a code and back
-  pub code-of-text : (code : ℕ) → code < 38 → codeOfText (textOf code) ≡ code
-  pub code-of-bytes : (code : ℕ) → code < 38 → codeOfBytes (bytesOf code) ≡ code
+  pub code-of-text : (code : ℕ) → code < labels → codeOfText (textOf code) ≡ code
+  pub code-of-bytes : (code : ℕ) → code < labels → codeOfBytes (bytesOf code) ≡ code
   -- from bytes and back
-  pub bytes-of-code : (s : List ℕ) → codeOfBytes s < 38 → bytesOf (codeOfBytes s) ≡ s
+  pub bytes-of-code : (s : List ℕ) → codeOfBytes s < labels → bytesOf (codeOfBytes s) ≡ s
   -- what texts and codes there are
-  pub text-short : (code : ℕ) → textOf code .len ≤ 15
-  pub text-none : (code : ℕ) → 38 ≤ code → bytesOf code ≡ []
-  pub code-most : (s : List ℕ) → codeOfBytes s ≤ 38
+  pub text-short : (code : ℕ) → textOf code .len ≤ mostBytes
+  pub text-none : (code : ℕ) → labels ≤ code → bytesOf code ≡ []
+  pub code-most : (s : List ℕ) → codeOfBytes s ≤ labels
 
 pub round-trip : RoundTrip
 unfolding codeOfText
 round-trip =
     record {
       code-of-text = λ code h.
-          let fits : textOf code .len ≤ 15 = rw text-len (short code) in
+          let fits : textOf code .len ≤ mostBytes = rw text-len (short code) in
           rw (le-leb _ _ fits, text-bytes) (code-of-label code h);
       code-of-bytes = code-of-label;
-      bytes-of-code = λ s h. found s labels h;
+      bytes-of-code = λ s h. found s labelTexts h;
       text-short = λ code. rw text-len (short code);
       text-none = no-bytes;
-      code-most = λ s. place-most s labels;
+      code-most = λ s. place-most s labelTexts;
     }

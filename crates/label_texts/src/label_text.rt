@@ -1,19 +1,24 @@
 // Label text: a code's exact UTF-8 bytes, and the code of given bytes.
 ghost use mathlib.Core.Path.{_≡_};
 ghost use Prim.Native.Nat.{_<_};
+ghost use Rattle.rule_types.specs.Number.{labels};
 ghost use Rattle.label_texts.specs.LabelText.{bytesOf, textOf, same, codeOfBytes, codeOfText};
+use rule_types::counts::LABELS;
 
-// The number of labels, which is also the code of bytes that are no label.
-pub const LABELS: u8 = 38;
+// The most bytes of a label.
+pub const MOST_BYTES: usize = 15;
+
+// The code of bytes that are no label: one past the last.
+pub const NO_LABEL: u8 = LABELS as u8;
 
 // Bytes by value: the first len of them count, the others are zeros.
 pub struct Text {
-    pub bytes: [u8; 15],
+    pub bytes: [u8; MOST_BYTES],
     pub len: u8,
 }
 
 // In the order of the codes.
-const TEXTS: [Text; 38] = [
+const TEXTS: [Text; LABELS] = [
     // 其他
     Text {
         bytes: *b"\xe5\x85\xb6\xe4\xbb\x96\0\0\0\0\0\0\0\0\0",
@@ -211,11 +216,11 @@ pub fn text_of(code: u8) -> Text
     ensures { λ r. ⌜ r ≡ textOf code ⌝ }
 {
     let i = code as usize;
-    if i < 38 {
+    if i < LABELS {
         TEXTS[i]
     } else {
         Text {
-            bytes: [0; 15],
+            bytes: [0; MOST_BYTES],
             len: 0,
         }
     }
@@ -223,7 +228,7 @@ pub fn text_of(code: u8) -> Text
 
 // Whether s is the text of a code.
 fn is_label(code: u8, s: &[u8]) -> bool
-    requires { ⌜ code < 38 ⌝ }
+    requires { ⌜ code < labels ⌝ }
     ensures { λ r. ⌜ r ≡ same (bytesOf code) (now (s .entry)) ⌝ }
 {
     let t = text_of(code);
@@ -237,13 +242,13 @@ pub fn code_of_bytes(s: &[u8]) -> u8
     ensures { λ r. ⌜ r ≡ codeOfBytes (now (s .entry)) ⌝ }
 {
     let mut code = 0u8;
-    while code < LABELS {
+    while code < NO_LABEL {
         if is_label(code, s) {
             return code;
         }
         code += 1;
     }
-    LABELS
+    NO_LABEL
 }
 
 // The code of a text by value; 38 for one that is no label or counts more bytes than it has.
@@ -252,8 +257,8 @@ pub fn code_of_text(t: Text) -> u8
 {
     let bytes = t.bytes;
     let n = t.len as usize;
-    if 15 < n {
-        return LABELS;
+    if MOST_BYTES < n {
+        return NO_LABEL;
     }
     code_of_bytes(&bytes[..n])
 }

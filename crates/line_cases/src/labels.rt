@@ -4,6 +4,7 @@ use crate::run::first;
 use text::Text;
 use text::code_of_bytes;
 use text::code_of_text;
+use text::label_text::NO_LABEL;
 use text::text_of;
 
 // A code, its text, how many bytes that has, and the code of it: again that code, or 38.
@@ -20,7 +21,7 @@ fn write_code(code: u8) {
 
 fn write_codes() {
     let mut code = 0u8;
-    while code <= 38 {
+    while code <= NO_LABEL {
         write_code(code);
         code += 1;
     }

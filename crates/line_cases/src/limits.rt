@@ -6,9 +6,13 @@ use bar_box::BarBox;
 use bar_box::KeptBar;
 use label_lines::Session;
 use label_lines::session;
+use label_lines::session::ROOM;
 use measures::Bar;
 use measures::price;
 use recognisers::Thresholds;
+
+// A byte less than the room for what a line may print.
+const SHORT: usize = ROOM - 1;
 
 // The standard set; a th14 that is above its limit, or a th0 that is no number, makes it a bad one.
 fn thresholds(th14_above: bool, th0_nan: bool) -> Thresholds {
@@ -116,10 +120,10 @@ fn write_room(name: &[u8], t: Taken) {
 }
 
 fn write_rooms() {
-    // a byte less than a line may print: nothing is used
-    let mut short = [0u8; 1331];
+    // nothing is used
+    let mut short = [0u8; SHORT];
     // just what a line may print: a line is used at a time
-    let mut single = [0u8; 1332];
+    let mut single = [0u8; ROOM];
     let mut ample = io::buffer();
     write_room(b"begun", take_line(&mut ample));
     write_room(b"1331 bytes", take_begun(false, &mut short));

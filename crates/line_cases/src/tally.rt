@@ -5,8 +5,16 @@ use measures::first_bars;
 use recognisers::Thresholds;
 use recognisers::call::Verdict;
 use recognisers::call::refusal_number;
+use recognisers::counts::LABELS;
+use recognisers::counts::RECOGNISERS;
+use recognisers::counts::ROW_BYTES;
 use tallies::Tallied;
 use tallies::TallyRow;
+
+// A sheet for six bars, and one that is too short for a bar.
+const SHEET: usize = 6 * ROW_BYTES;
+
+const SHORT: usize = ROW_BYTES - 1;
 
 // The box and the tally after n bars, of which there are six.
 fn after(n: usize) -> Tallied {
@@ -36,18 +44,23 @@ fn after(n: usize) -> Tallied {
         9.0,
         5.0,
     ];
-    let mut sheet = [0u8; 216];
+    let mut sheet = [0u8; SHEET];
     let made = bar_box::make(Thresholds::standard());
     let b = made.after;
     tallies::feed(b, tallies::fresh(), first_bars(&prices, n), &mut sheet)
 }
 
 // The table with a number added to a cell; what passes 32 bits is cut off.
-fn with_more(tally: [TallyRow; 18], k: usize, c: usize, more: u32) -> [TallyRow; 18] {
-    if 17 < k {
+fn with_more(
+    tally: [TallyRow; RECOGNISERS],
+    k: usize,
+    c: usize,
+    more: u32,
+) -> [TallyRow; RECOGNISERS] {
+    if RECOGNISERS <= k {
         return tally;
     }
-    if 37 < c {
+    if LABELS <= c {
         return tally;
     }
     let row = tally[k];
@@ -69,38 +82,38 @@ fn write_verdict(verdict: Verdict) {
 }
 
 // A feed of one bar on a sheet that is long enough.
-fn write_fed(b: BarBox, tally: [TallyRow; 18]) {
-    let mut sheet = [0u8; 36];
+fn write_fed(b: BarBox, tally: [TallyRow; RECOGNISERS]) {
+    let mut sheet = [0u8; ROW_BYTES];
     let fed = tallies::feed(b, tally, &[5.0, 6.0, 7.0, 4.0], &mut sheet);
     let verdict = fed.verdict;
     write_verdict(verdict);
 }
 
 // In a row: one bar too many, one too few, 2 to the power of 32 too many, and one counted for another label, which the sums don't tell.
-fn write_row(b: BarBox, tally: [TallyRow; 18], k: usize) {
+fn write_row(b: BarBox, tally: [TallyRow; RECOGNISERS], k: usize) {
     print::number(b"tally, one too many in row ", k as u64);
     write_fed(b, with_more(tally, k, 0, 1));
     print::number(b"tally, one too few in row ", k as u64);
     write_fed(b, with_more(tally, k, 0, u32::MAX));
     print::number(b"tally, 4294967296 too many in row ", k as u64);
     let half = with_more(tally, k, 1, 2147483648);
-    write_fed(b, with_more(half, k, 37, 2147483648));
+    write_fed(b, with_more(half, k, LABELS - 1, 2147483648));
     print::number(b"tally, another label in row ", k as u64);
     let fewer = with_more(tally, k, 0, u32::MAX);
-    write_fed(b, with_more(fewer, k, 37, 1));
+    write_fed(b, with_more(fewer, k, LABELS - 1, 1));
 }
 
-fn write_rows(b: BarBox, tally: [TallyRow; 18]) {
+fn write_rows(b: BarBox, tally: [TallyRow; RECOGNISERS]) {
     let mut k = 0usize;
-    while k < 18 {
+    while k < RECOGNISERS {
         write_row(b, tally, k);
         k += 1;
     }
 }
 
-// Prices on a sheet that is too short for a bar.
-fn write_short(name: &[u8], b: BarBox, tally: [TallyRow; 18], prices: &[f64]) {
-    let mut sheet = [0u8; 35];
+// Prices on the short sheet.
+fn write_short(name: &[u8], b: BarBox, tally: [TallyRow; RECOGNISERS], prices: &[f64]) {
+    let mut sheet = [0u8; SHORT];
     print::text(name);
     let fed = tallies::feed(b, tally, prices, &mut sheet);
     let verdict = fed.verdict;
@@ -108,7 +121,7 @@ fn write_short(name: &[u8], b: BarBox, tally: [TallyRow; 18], prices: &[f64]) {
 }
 
 // A wrong tally beside what is tried before and after it, and a right one.
-fn write_order(b: BarBox, tally: [TallyRow; 18]) {
+fn write_order(b: BarBox, tally: [TallyRow; RECOGNISERS]) {
     let wrong = with_more(tally, 17, 37, 1);
     let mut t = Thresholds::standard();
     t.th14 = 10000001;

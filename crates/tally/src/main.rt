@@ -1,9 +1,9 @@
 // The tally program: reads the lines that the labels program reads and prints how often each label came up. What it prints is fixed by
 // tally_lines; here is what moves bytes in and out.
+use label_lines::output::goes_on;
 use libc::STDIN_FILENO;
 use libc::STDOUT_FILENO;
 use tally_lines::Session;
-use tally_lines::reading;
 use tally_lines::session;
 
 // The session after a read, and whether there is more to read.
@@ -32,7 +32,7 @@ fn read_some(st: Session) -> Turn {
     let n = io::count(got, &buf);
     let next = session::absorb(st, &buf[..n]);
     let stop = next.stop;
-    let goes_on = reading::goes_on(stop) & (0 < n);
+    let goes_on = goes_on(stop) & (0 < n);
     if !goes_on {
         finish(next);
     }

@@ -1,15 +1,12 @@
 -- The tests of the loop that gathers. Assumes nothing.
 use Prim.Native.Nat.{ℕ, _≤_, _<_}
-use mathlib.Core.Bool.{Bool, true, false, cond, _&&_}
-use mathlib.Core.Path.{_≡_, sym, ap, _∙_}
+use mathlib.Core.Bool.{Bool, true, false, _&&_, true≢false}
+use mathlib.Core.Path.{_≡_, sym, _∙_}
 use native.Mathlib.Decide.{decLe}
 use native.Mathlib.Omega.{arith}
 use borrow.Author.Tests.{ltb-true, lt-ltb}
 use lib.Dec.{ltb}
 use Rattle.text.proofs.RunLaws.{both}
-
-true-false : true ≡ false → ⊥
-true-false e = let y : _≡_ {A = ℕ} 0 1 = ap (λ (t : Bool). cond t 0 1) e in omega arith
 
 module _ (used len bars most : ℕ) (going : Bool) where
   abbrev goes : Bool
@@ -29,5 +26,5 @@ module _ (used len bars most : ℕ) (going : Bool) where
         | no h ↦ (let zero : used ≡ 0 = omega arith in
             let first = none zero in
             let on : goes ≡ true = rw (lt-ltb used len (omega arith), lt-ltb bars most (first .0), first .1) in
-            absurd (true-false (sym on ∙ ended)))
+            absurd (true≢false (sym on ∙ ended)))
       ]

@@ -1,38 +1,23 @@
 -- One more bar, fed to the box and the tally that a history left. Assumes nothing.
 use Prim.Native.Nat.{_+_, _≤_}
 use mathlib.Core.List.{List, [], _∷_, _++_}
-use mathlib.Core.Path.{_≡_, refl, sym, _∙_}
-use native.Mathlib.Omega.{arith}
-use borrow.Author.Tests.{lt-ltb}
+use mathlib.Core.Path.{_≡_, sym, _∙_}
 use lib.ListN.{length}
 use Rattle.measures.specs.Bar.{Bar, barsOf, pricesOf}
 use Rattle.recognisers.specs.declared.call.Refusal.the-variants as refusal
 use Rattle.recognisers.specs.declared.call.Verdict.the-variants.{Accepted, Denied}
-use Rattle.recognisers.specs.Number.{rowBytes, mostBars}
-use Rattle.recognisers.specs.Refusal.{firstTrue}
+use Rattle.recognisers.specs.Number.{mostBars}
 use Rattle.recognisers.specs.Threshold.{standardSet}
-use Rattle.bar_box.specs.declared.boxes.BarBox.{BarBox}
-use Rattle.bar_box.specs.Box.{freshBox, takenIn, feedTried, feedVerdict}
-use Rattle.bar_box.specs.History.{verdictOn, NoBars}
-use Rattle.bar_box.proofs.FeedSteps.{accepts, count-after, verdict-step}
+use Rattle.bar_box.proofs.FeedSteps.{count-after, verdict-step}
 use Rattle.bar_box.proofs.FeedLists.{at-start}
-use Rattle.bar_box.proofs.Demand3.{standard-valid, fresh-none}
 use Rattle.tallies.specs.Tally.{freshTally}
 use Rattle.tallies.specs.Feed.{talliedOf}
 use Rattle.tallies.proofs.Tallies.{tallyOf, tallied-step, tally-bars, tally-none}
+use Rattle.label_lines.proofs.HistoryRows.{fresh, start, boxOf, accepted, past}
 use Rattle.tally_lines.specs.Session.{barFeed}
 use Rattle.tally_lines.specs.History.{historyTally}
 
-abbrev pub fresh : BarBox
-fresh = freshBox standardSet
-
-start : NoBars fresh
-start = fresh-none standardSet
-
--- the box that a history leaves, and its count
-abbrev pub boxOf : List Bar → BarBox
-boxOf h = takenIn fresh h
-
+-- the count of the box that a history leaves
 pub box-count : (h : List Bar) → boxOf h .count ≡ length h
 box-count h = count-after fresh start h
 
@@ -54,14 +39,9 @@ module _ (h : List Bar) (bar : Bar) where
       → talliedOf (boxOf h) (historyTally h) (barFeed bar) ≡ record { verdict = Accepted; after = boxOf (h ++ (bar ∷ [])); tally = historyTally (h ++ (bar ∷ [])) }
   unfolding barsOf pricesOf
   fed-more few =
-      let accepted : verdictOn standardSet h (barFeed bar) ≡ Accepted =
-      accepts standardSet (length h) 4 rowBytes (record { valid = standard-valid; whole = refl; few = few; room = omega arith }) in
-      rw (tally-is h, tally-is (h ++ (bar ∷ []))) (tallied-step fresh start h (barFeed bar) ∙ rw (verdict-step fresh start h (barFeed bar), accepted))
+      rw (tally-is h, tally-is (h ++ (bar ∷ []))) (tallied-step fresh start h (barFeed bar) ∙ rw (verdict-step fresh start h (barFeed bar), accepted h bar few))
 
   -- past them it is refused
   pub fed-past : length h ≡ mostBars
       → talliedOf (boxOf h) (historyTally h) (barFeed bar) ≡ record { verdict = Denied refusal.TooManyBars; after = boxOf h; tally = historyTally h }
-  unfolding feedVerdict feedTried firstTrue pricesOf
-  fed-past most =
-      let past : verdictOn standardSet h (barFeed bar) ≡ Denied refusal.TooManyBars = simp (standard-valid, lt-ltb mostBars (length h + 1) (omega arith)) in
-      rw (tally-is h) (tallied-step fresh start h (barFeed bar) ∙ rw (verdict-step fresh start h (barFeed bar), past))
+  fed-past most = rw (tally-is h) (tallied-step fresh start h (barFeed bar) ∙ rw (verdict-step fresh start h (barFeed bar), past h bar most))

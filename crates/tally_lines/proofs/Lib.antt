@@ -3,7 +3,7 @@ pub mod BatchLaws
 mod GuardLaws
 pub mod HistoryLaws
 pub mod OutputLaws
-pub mod PriceLaws
 pub mod ReadLaws
+pub mod SameRefusal
 pub mod SessionLaws
 pub mod Whole

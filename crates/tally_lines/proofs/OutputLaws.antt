@@ -10,14 +10,14 @@ use lib.Dec.{eqb}
 use lib.ListN.{length, getD, take}
 use lib.Seq.{take-suc, length-take-le}
 use Rattle.tallies.specs.declared.table.TallyRow.{TallyRow}
-use Rattle.label_lines.specs.Output.{countLine}
+use Rattle.label_lines.specs.Output.{countLine, longestCount}
 use Rattle.label_lines.proofs.OutputLaws.{count-most}
 use Rattle.tally_lines.specs.Output.{cellLine, cellLines, tallyLines}
 
-pub cell-most : (k c count : ℕ) → length (cellLine k c count) ≤ 58
+pub cell-most : (k c count : ℕ) → length (cellLine k c count) ≤ longestCount
 cell-most k c count = go (eqb count 0)
   where
-    go : (t : Bool) → length (cond t [] (countLine k c count)) ≤ 58
+    go : (t : Bool) → length (cond t [] (countLine k c count)) ≤ longestCount
     go true = omega arith
     go false = count-most k c count
 

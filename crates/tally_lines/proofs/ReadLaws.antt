@@ -18,9 +18,10 @@ use Rattle.text.specs.Lines.{lineFeed, pieceEnd, keptLine, content, partialOf}
 use Rattle.text.proofs.LineLaws.{line-kept, kept-kept, content-partial}
 use Rattle.text.proofs.RunLaws.{all-pass, run-taken}
 use Rattle.label_lines.proofs.SessionLaws.{with-feed}
-use Rattle.tally_lines.specs.declared.reading.Stop.the-variants.{Going}
+use Rattle.label_lines.specs.declared.output.Stop.the-variants.{Going}
+use Rattle.label_lines.specs.Output.{goesOn}
 use Rattle.tally_lines.specs.declared.reading.Gathered.{Gathered}
-use Rattle.tally_lines.specs.Session.{Read, goesOn, afterLine, readFrom, barsIn, stopIn, gatheredOf}
+use Rattle.tally_lines.specs.Session.{Read, afterLine, readFrom, lineBars, lineStop, gatheredOf}
 
 -- ---- a line of which the first bytes are kept
 kept-same : (bars : List Bar) (a b bytes : List ℕ) → keptLine a ≡ keptLine b → readFrom bars a bytes ≡ readFrom bars b bytes
@@ -113,13 +114,13 @@ quiet bars cur (x ∷ xs) e =
     rw (not-true (eqb x lineFeed) (pass .0)) (quiet bars (cur ++ (x ∷ [])) xs (pass .1) ∙ rw append-assoc)
 
 -- and the line feed behind them
-after-feed : (l : Line) → afterLine l [] (λ more. readFrom more [] []) ≡ record { bars = barsIn l; line = []; stop = stopIn l }
+after-feed : (l : Line) → afterLine l [] (λ more. readFrom more [] []) ≡ record { bars = lineBars l; line = []; stop = lineStop l }
 unfolding readFrom
 after-feed (Prices bar) = refl
 after-feed BadShape = refl
 after-feed (BadPrice place) = refl
 
-pub read-feed : (cur : List ℕ) → readFrom [] cur (lineFeed ∷ []) ≡ record { bars = barsIn (lineOf cur); line = []; stop = stopIn (lineOf cur) }
+pub read-feed : (cur : List ℕ) → readFrom [] cur (lineFeed ∷ []) ≡ record { bars = lineBars (lineOf cur); line = []; stop = lineStop (lineOf cur) }
 unfolding readFrom
 read-feed cur = after-feed (lineOf cur)
 
@@ -132,7 +133,7 @@ module _ (cur chunk : List ℕ) (k : ℕ) (is : k ≡ pieceEnd lineFeed chunk) w
 
   pub read-line : k < length chunk
       → let l = lineOf (keptLine (cur ++ take k chunk)) in
-      readFrom [] cur (take (k + 1) chunk) ≡ record { bars = barsIn l; line = []; stop = stopIn l }
+      readFrom [] cur (take (k + 1) chunk) ≡ record { bars = lineBars l; line = []; stop = lineStop l }
   read-line inside =
       let with-line : take (k + 1) chunk ≡ take k chunk ++ (lineFeed ∷ []) = rw is (with-feed chunk (rw is at inside)) in
       rw (with-line, read-append [] cur (take k chunk) (lineFeed ∷ []), read-rest) (read-feed (keptLine (cur ++ take k chunk)))
@@ -140,7 +141,7 @@ module _ (cur chunk : List ℕ) (k : ℕ) (is : k ≡ pieceEnd lineFeed chunk) w
 -- ---- what was gathered
 
 -- a line gives at most one bar
-pub bars-few : (l : Line) → length (barsIn l) ≤ 1
+pub bars-few : (l : Line) → length (lineBars l) ≤ 1
 bars-few (Prices bar) = omega arith
 bars-few BadShape = omega arith
 bars-few (BadPrice place) = omega arith

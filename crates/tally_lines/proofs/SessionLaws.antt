@@ -17,10 +17,11 @@ use Rattle.tallies.specs.declared.feeds.Tallied.{Tallied}
 use Rattle.tallies.specs.Feed.{talliedOf}
 use Rattle.text.specs.Lines.{keptLine, content, partialOf}
 use Rattle.text.proofs.LineLaws.{content-partial}
-use Rattle.tally_lines.specs.declared.reading.Stop.{Stop}
-use Rattle.tally_lines.specs.declared.reading.Stop.the-variants.{Going, By, Price}
+use Rattle.label_lines.specs.declared.output.Stop.{Stop}
+use Rattle.label_lines.specs.Output.{goesOn}
+use Rattle.label_lines.specs.declared.output.Stop.the-variants.{Going, By, Price}
 use Rattle.tally_lines.specs.declared.session.Session.{Session}
-use Rattle.tally_lines.specs.Session.{Read, State, goesOn, readFrom, barFeed, fedAll, settledBy, settled, takenOf, stateOf, sessionOf}
+use Rattle.tally_lines.specs.Session.{Read, State, readFrom, barFeed, fedAll, settledBy, settled, stateAfter, stateOf, sessionOf}
 use Rattle.tally_lines.proofs.ReadLaws.{behind, read-append, read-after, kept-again}
 
 -- ---- bars, one run behind another
@@ -42,32 +43,32 @@ fed-append b tally (x ∷ xs) ys =
 -- ---- bytes, one run behind another
 
 -- behind a refused line nothing changes
-stopped : (o : Tallied) (r : Read) (ys : List ℕ) (v : Verdict) → o .verdict ≡ v → goesOn (r .stop) ≡ false → settledBy o r ≡ takenOf (settledBy o r) ys
-unfolding takenOf
+stopped : (o : Tallied) (r : Read) (ys : List ℕ) (v : Verdict) → o .verdict ≡ v → goesOn (r .stop) ≡ false → settledBy o r ≡ stateAfter (settledBy o r) ys
+unfolding stateAfter
 stopped o r ys Accepted e no-more = rw (e, no-more)
 stopped o r ys (Denied why) e no-more = rw e
 
 -- else reading goes on
 gone-on : (o : Tallied) (r : Read) (ys : List ℕ) (v : Verdict) → o .verdict ≡ v → goesOn (r .stop) ≡ true
-    → let more = readFrom [] (r .line) ys in settledBy (goneOn o (more .bars)) (behind (r .bars) more) ≡ takenOf (settledBy o r) ys
-unfolding takenOf
+    → let more = readFrom [] (r .line) ys in settledBy (goneOn o (more .bars)) (behind (r .bars) more) ≡ stateAfter (settledBy o r) ys
+unfolding stateAfter
 gone-on o r ys Accepted e going = rw (e, going)
 gone-on o r ys (Denied why) e going = rw e
 
 settled-on : (b : BarBox) (tally : List TallyRow) (r : Read) (ys : List ℕ) (t : Bool) → goesOn (r .stop) ≡ t
-    → settled b tally (cond t (readFrom (r .bars) (r .line) ys) r) ≡ takenOf (settled b tally r) ys
+    → settled b tally (cond t (readFrom (r .bars) (r .line) ys) r) ≡ stateAfter (settled b tally r) ys
 settled-on b tally r ys true going =
     let o = fedAll b tally (r .bars) in
     let more = readFrom [] (r .line) ys in
     rw (read-after (r .bars) (r .line) ys, fed-append b tally (r .bars) (more .bars)) (gone-on o r ys (o .verdict) refl going)
 settled-on b tally r ys false no-more = let o = fedAll b tally (r .bars) in stopped o r ys (o .verdict) refl no-more
 
-pub taken-append : (s : State) (xs ys : List ℕ) → takenOf s (xs ++ ys) ≡ takenOf (takenOf s xs) ys
-unfolding takenOf
+pub taken-append : (s : State) (xs ys : List ℕ) → stateAfter s (xs ++ ys) ≡ stateAfter (stateAfter s xs) ys
+unfolding stateAfter
 taken-append s xs ys = go (goesOn (s .stop)) refl
   where
     go : (t : Bool) → goesOn (s .stop) ≡ t
-        → cond t (settled (s .box) (s .tally) (readFrom [] (s .line) (xs ++ ys))) s ≡ takenOf (cond t (settled (s .box) (s .tally) (readFrom [] (s .line) xs)) s) ys
+        → cond t (settled (s .box) (s .tally) (readFrom [] (s .line) (xs ++ ys))) s ≡ stateAfter (cond t (settled (s .box) (s .tally) (readFrom [] (s .line) xs)) s) ys
     go true e =
         let r = readFrom [] (s .line) xs in
         rw (read-append [] (s .line) xs ys) (settled-on (s .box) (s .tally) r ys (goesOn (r .stop)) refl)
@@ -79,13 +80,13 @@ state-session s = rw (content-partial (s .line))
 
 -- no bytes leave it, where its line is the kept bytes of one
 pub none-taken : (l : List ℕ) (b : BarBox) (tally : List TallyRow) (stop : Stop) → keptLine l ≡ l
-    → let s : State = record { line = l; box = b; tally = tally; stop = stop } in takenOf s [] ≡ s
-unfolding takenOf readFrom fedAll
+    → let s : State = record { line = l; box = b; tally = tally; stop = stop } in stateAfter s [] ≡ s
+unfolding stateAfter readFrom fedAll
 none-taken l b tally Going e = rw e
 none-taken l b tally (By r) e = refl
 none-taken l b tally (Price place) e = refl
 
-pub session-stays : (st : Session) (l : List ℕ) → st .line ≡ partialOf (keptLine l) → st ≡ sessionOf (takenOf (stateOf st) [])
+pub session-stays : (st : Session) (l : List ℕ) → st .line ≡ partialOf (keptLine l) → st ≡ sessionOf (stateAfter (stateOf st) [])
 session-stays st l e =
     let line : content (st .line) ≡ keptLine l = rw e (content-partial (keptLine l)) in
     let kept : keptLine (content (st .line)) ≡ content (st .line) = rw line (kept-again l) in
@@ -94,13 +95,13 @@ session-stays st l e =
 -- what was read and fed is what the bytes leave
 pub taken-by : (s : State) (bytes : List ℕ) (o : Tallied) (l : List ℕ) (stop : Stop) → goesOn (s .stop) ≡ true
     → let r = readFrom [] (s .line) bytes in
-    o ≡ fedAll (s .box) (s .tally) (r .bars) → l ≡ r .line → stop ≡ r .stop → settledBy o (record { bars = []; line = l; stop = stop }) ≡ takenOf s bytes
-unfolding takenOf
+    o ≡ fedAll (s .box) (s .tally) (r .bars) → l ≡ r .line → stop ≡ r .stop → settledBy o (record { bars = []; line = l; stop = stop }) ≡ stateAfter s bytes
+unfolding stateAfter
 taken-by s bytes o l stop going fed line is = rw (going, fed, line, is)
 
 -- once a line was refused bytes leave nothing else
-pub stopped-taken : (s : State) (bytes : List ℕ) → goesOn (s .stop) ≡ false → takenOf s bytes ≡ s
-unfolding takenOf
+pub stopped-taken : (s : State) (bytes : List ℕ) → goesOn (s .stop) ≡ false → stateAfter s bytes ≡ s
+unfolding stateAfter
 stopped-taken s bytes e = rw e
 
 and-true : (t : Bool) → (t && true) ≡ t
@@ -108,8 +109,8 @@ and-true true = refl
 and-true false = refl
 
 -- where a loop over a chunk ends, the rest leaves nothing else
-pub rest-left : (s : State) (chunk : List ℕ) (used : ℕ) (going : Bool) → used ≤ length chunk → going ≡ goesOn (takenOf s (take used chunk) .stop)
-    → (ltb used (length chunk) && going) ≡ false → takenOf s (take used chunk) ≡ takenOf s chunk
+pub rest-left : (s : State) (chunk : List ℕ) (used : ℕ) (going : Bool) → used ≤ length chunk → going ≡ goesOn (stateAfter s (take used chunk) .stop)
+    → (ltb used (length chunk) && going) ≡ false → stateAfter s (take used chunk) ≡ stateAfter s chunk
 rest-left s chunk used true within is ended = rw (take-all used chunk (ltb-false used (length chunk) (rw and-true at ended)))
 rest-left s chunk used false within is ended =
-    sym (stopped-taken (takenOf s (take used chunk)) (drop used chunk) (sym is)) ∙ sym (taken-append s (take used chunk) (drop used chunk)) ∙ rw take-append-drop
+    sym (stopped-taken (stateAfter s (take used chunk)) (drop used chunk) (sym is)) ∙ sym (taken-append s (take used chunk) (drop used chunk)) ∙ rw take-append-drop

@@ -2,7 +2,7 @@
 -- Assumes nothing.
 use Prim.Native.Nat.{ℕ, _+_, _≤_}
 use mathlib.Core.Bool.{Bool, true, false, cond}
-use mathlib.Core.List.{List, [], _∷_, _++_, map, append-assoc, append-nil}
+use mathlib.Core.List.{List, [], _∷_, _++_, map, flatten, append-assoc, append-nil}
 use mathlib.Core.Path.{_≡_, refl, sym, ap, _∙_}
 use native.Mathlib.Omega.{arith}
 use borrow.Author.Tests.{ltb-true, ltb-false, eqb-true, ne-eqb}
@@ -21,14 +21,15 @@ use Rattle.text.specs.LineText.{lineOf}
 use Rattle.text.specs.Lines.{lineFeed, linesFrom, keptLine}
 use Rattle.text.proofs.LineLaws.{lines-end, lines-last, lines-feed, lines-byte}
 use Rattle.label_lines.specs.Output.{refusalLine}
-use Rattle.label_lines.specs.Session.{joined}
-use Rattle.tally_lines.specs.declared.reading.Stop.the-variants.{Going}
+use Rattle.label_lines.specs.History.{linesPrint}
+use Rattle.label_lines.specs.declared.output.Stop.the-variants.{Going, By}
+use Rattle.label_lines.proofs.HistoryRows.{boxOf}
 use Rattle.tally_lines.specs.Output.{cellLines, tallyLines}
-use Rattle.tally_lines.specs.Session.{Read, State, afterLine, readFrom, fedAll, settled, takenOf, readsLeave, closed, printed, endPrints, freshState}
+use Rattle.tally_lines.specs.Session.{Read, State, afterLine, readFrom, fedAll, settled, stateAfter, readsLeave, closed, printed, endPrints, freshState}
 use Rattle.tally_lines.specs.History.{historyTally, tallyPrints, outputOf}
 use Rattle.tally_lines.proofs.ReadLaws.{read-kept, read-after, read-feed}
 use Rattle.tally_lines.proofs.SessionLaws.{taken-append, none-taken}
-use Rattle.tally_lines.proofs.HistoryLaws.{boxOf, box-count, box-none, tally-fresh, fed-more, fed-past}
+use Rattle.tally_lines.proofs.HistoryLaws.{box-count, box-none, tally-fresh, fed-more, fed-past}
 
 -- what a history has left, and then what was read behind it
 abbrev after : List Bar → Read → State
@@ -38,7 +39,7 @@ after h r = settled (boxOf h) (historyTally h) r
 module _ (rest : List ℕ) (on : (h : List Bar) → length h ≤ mostBars → endPrints (after h (readFrom [] [] rest)) ≡ tallyPrints h (map lineOf (linesFrom [] rest))) where
   bar-line : (h : List Bar) (bar : Bar) (t : Bool) → ltb (length h) mostBars ≡ t → length h ≤ mostBars
       → endPrints (after h (readFrom (bar ∷ []) [] rest))
-      ≡ cond t (tallyPrints (h ++ (bar ∷ [])) (map lineOf (linesFrom [] rest))) (refusalLine (length h + 1) refusal.TooManyBars)
+      ≡ cond t (tallyPrints (h ++ (bar ∷ [])) (map lineOf (linesFrom [] rest))) (refusalLine (length h + 1) (By refusal.TooManyBars))
   unfolding fedAll closed
   bar-line h bar true room few =
       let below = ltb-true (length h) mostBars room in
@@ -50,7 +51,7 @@ module _ (rest : List ℕ) (on : (h : List Bar) → length h ≤ mostBars → en
 
   one-line : (h : List Bar) (l : Line) → length h ≤ mostBars
       → endPrints (after h (afterLine l [] (λ more. readFrom more [] rest))) ≡ tallyPrints h (l ∷ map lineOf (linesFrom [] rest))
-  unfolding tallyPrints fedAll closed
+  unfolding linesPrint fedAll closed
   one-line h (Prices bar) few = bar-line h bar (ltb (length h) mostBars) refl few
   one-line h BadShape few = rw (box-count h)
   one-line h (BadPrice place) few = rw (box-count h)
@@ -59,7 +60,7 @@ module _ (rest : List ℕ) (on : (h : List Bar) → length h ≤ mostBars → en
 
 -- no line has begun
 none-left : (h : List Bar) → endPrints (after h (readFrom [] [] [])) ≡ tallyPrints h (map lineOf (linesFrom [] []))
-unfolding readFrom fedAll closed tallyPrints
+unfolding readFrom fedAll closed linesPrint
 none-left h = rw lines-end
 
 -- behind a line feed none has
@@ -85,7 +86,7 @@ unfolding readFrom fedAll
 begun-left h cur = refl
 
 some-closed : (s : State) → s .stop ≡ Going → eqb (length (s .line)) 0 ≡ false → closed s ≡ settled (s .box) (s .tally) (readFrom [] (s .line) (lineFeed ∷ []))
-unfolding closed takenOf
+unfolding closed stateAfter
 some-closed s going some = rw (some, going)
 
 begun-closed : (h : List Bar) (b : ℕ) (bs : List ℕ) → closed (after h (readFrom [] (b ∷ bs) [])) ≡ after h (readFrom [] (b ∷ bs) (lineFeed ∷ []))
@@ -119,24 +120,24 @@ after-history h cur (b ∷ rest) few = byte-line rest (λ h' cur' few'. after-hi
 -- ---- the program
 
 -- in one read
-pub whole : (input : List ℕ) → endPrints (takenOf freshState input) ≡ outputOf input
-unfolding takenOf
+pub whole : (input : List ℕ) → endPrints (stateAfter freshState input) ≡ outputOf input
+unfolding stateAfter
 whole input = rw (box-none, ← tally-fresh) (after-history [] [] input (omega arith))
 
 -- in several: the same as in one
-reads-join : (s : State) (bytes : List ℕ) (reads : List (List ℕ)) → readsLeave (takenOf s bytes) reads ≡ takenOf s (bytes ++ joined reads)
-unfolding readsLeave joined
+reads-join : (s : State) (bytes : List ℕ) (reads : List (List ℕ)) → readsLeave (stateAfter s bytes) reads ≡ stateAfter s (bytes ++ flatten reads)
+unfolding readsLeave flatten
 reads-join s bytes [] = rw append-nil
 reads-join s bytes (more ∷ reads) = rw (← taken-append s bytes more, reads-join s (bytes ++ more) reads, append-assoc)
 
 -- the theorem of the program: however its input is cut into reads, it prints what the input's lines print
-pub reads-print : (reads : List (List ℕ)) → endPrints (readsLeave freshState reads) ≡ outputOf (joined reads)
+pub reads-print : (reads : List (List ℕ)) → endPrints (readsLeave freshState reads) ≡ outputOf (flatten reads)
 reads-print reads =
     ap (λ (s : State). endPrints (readsLeave s reads)) (sym (none-taken [] (freshState .box) freshTally Going refl))
     ∙ ap endPrints (reads-join freshState [] reads)
-    ∙ whole (joined reads)
+    ∙ whole (flatten reads)
 
 -- an input without a byte prints nothing
 pub none-prints : outputOf [] ≡ []
-unfolding tallyPrints tallyLines cellLines freshTally
+unfolding linesPrint tallyLines cellLines freshTally
 none-prints = rw (lines-end, tally-fresh)

@@ -2,3 +2,4 @@
 pub mod Output
 pub mod Session
 pub mod History
+pub mod SameRefusal

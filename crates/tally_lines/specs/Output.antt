@@ -5,7 +5,7 @@ use mathlib.Core.List.{List, [], _∷_, _++_}
 use lib.Dec.{eqb}
 use Rattle.recognisers.specs.Number.{recognisers, labels}
 use Rattle.tallies.specs.declared.table.TallyRow.{TallyRow}
-use Rattle.label_lines.specs.Output.{countLine}
+use Rattle.label_lines.specs.Output.{countLine, longestCount}
 
 -- a cell's line, if it isn't zero
 abbrev pub cellLine : ℕ → ℕ → ℕ → List ℕ
@@ -20,9 +20,9 @@ unfoldable pub tallyLines : ℕ → List TallyRow → List ℕ
 tallyLines k [] = []
 tallyLines k (row ∷ tally) = cellLines k 0 (row .counts) ++ tallyLines (k + 1) tally
 
--- the room for a row's lines, of at most 58 bytes each, and for those of a table
+-- the room for a row's lines, and for those of a table
 abbrev pub rowRoom : ℕ
-rowRoom = labels * 58
+rowRoom = labels * longestCount
 
 abbrev pub tallyRoom : ℕ
 tallyRoom = recognisers * rowRoom

@@ -1,7 +1,7 @@
 -- The tally program, read by read: what it holds between two of them, what the bytes of one leave, and what the input's end prints.
 -- That this is what the input's lines print is proved in proofs/Whole.antt.
 use Prim.Native.Nat.{ℕ, _+_}
-use mathlib.Core.Bool.{Bool, true, false, cond}
+use mathlib.Core.Bool.{cond}
 use mathlib.Core.List.{List, [], _∷_, _++_}
 use lib.Dec.{eqb}
 use lib.ListN.{length, replicate}
@@ -23,20 +23,14 @@ use Rattle.text.specs.declared.line_text.Line.{Line}
 use Rattle.text.specs.declared.line_text.Line.the-variants.{Prices, BadShape, BadPrice}
 use Rattle.text.specs.LineText.{lineOf}
 use Rattle.text.specs.Lines.{lineFeed, keptLine, content, partialOf}
-use Rattle.label_lines.specs.Output.{refusalLine, badPriceLine}
-use Rattle.tally_lines.specs.declared.reading.Stop.{Stop}
-use Rattle.tally_lines.specs.declared.reading.Stop.the-variants.{Going, By, Price}
+use Rattle.label_lines.specs.declared.output.Stop.{Stop}
+use Rattle.label_lines.specs.declared.output.Stop.the-variants.{Going, By, Price}
+use Rattle.label_lines.specs.Output.{goesOn, refusalLine}
 use Rattle.tally_lines.specs.declared.reading.Gathered.{Gathered}
 use Rattle.tally_lines.specs.declared.session.Session.{Session}
 use Rattle.tally_lines.specs.Output.{tallyLines}
 
 -- ---- bytes read as lines
-
--- whether no line was refused
-abbrev pub goesOn : Stop → Bool
-goesOn Going = true
-goesOn (By r) = false
-goesOn (Price place) = false
 
 -- the bars of the lines up to the first that is none, the line that has begun, of which the first bytes are kept, and whether one was refused
 pub record Read : Type 0 where
@@ -44,11 +38,20 @@ pub record Read : Type 0 where
   pub line : List ℕ
   pub stop : Stop
 
+-- a line's bar, and its refusal
+abbrev pub lineBars : Line → List Bar
+lineBars (Prices bar) = bar ∷ []
+lineBars BadShape = []
+lineBars (BadPrice place) = []
+
+abbrev pub lineStop : Line → Stop
+lineStop (Prices bar) = Going
+lineStop BadShape = By refusal.BadShape
+lineStop (BadPrice place) = Price place
+
 -- the end of a line behind these bars: its bar follows them, and reading goes on; a line that is no bar is refused, and it doesn't
 abbrev pub afterLine : Line → List Bar → (List Bar → Read) → Read
-afterLine (Prices bar) bars on = on (bars ++ (bar ∷ []))
-afterLine BadShape bars on = record { bars = bars; line = []; stop = By refusal.BadShape }
-afterLine (BadPrice place) bars on = record { bars = bars; line = []; stop = Price place }
+afterLine l bars on = cond (goesOn (lineStop l)) (on (bars ++ lineBars l)) (record { bars = bars; line = []; stop = lineStop l })
 
 -- bytes behind these bars and a line that has begun with the bytes cur
 unfoldable pub readFrom : List Bar → List ℕ → List ℕ → Read
@@ -99,44 +102,28 @@ abbrev pub settled : BarBox → List TallyRow → Read → State
 settled b tally read = settledBy (fedAll b tally (read .bars)) read
 
 -- what bytes leave: nothing changes once a line was refused
-unfoldable pub takenOf : State → List ℕ → State
-takenOf s bytes = cond (goesOn (s .stop)) (settled (s .box) (s .tally) (readFrom [] (s .line) bytes)) s
+unfoldable pub stateAfter : State → List ℕ → State
+stateAfter s bytes = cond (goesOn (s .stop)) (settled (s .box) (s .tally) (readFrom [] (s .line) bytes)) s
 
 -- what reads leave, one after the other
 unfoldable pub readsLeave : State → List (List ℕ) → State
 readsLeave s [] = s
-readsLeave s (bytes ∷ reads) = readsLeave (takenOf s bytes) reads
+readsLeave s (bytes ∷ reads) = readsLeave (stateAfter s bytes) reads
 
 -- ---- what is printed
 
 -- the tally, or the refusal and nothing else; the ordinal of a refused line is one more than the bars before
-abbrev pub printedBy : Stop → BarBox → List TallyRow → List ℕ
-printedBy Going b tally = tallyLines 0 tally
-printedBy (By r) b tally = refusalLine (b .count + 1) r
-printedBy (Price place) b tally = badPriceLine (b .count + 1) place
-
 abbrev pub printed : State → List ℕ
-printed s = printedBy (s .stop) (s .box) (s .tally)
+printed s = cond (goesOn (s .stop)) (tallyLines 0 (s .tally)) (refusalLine (s .box .count + 1) (s .stop))
 
 -- at the input's end a line that has begun ends
 unfoldable pub closed : State → State
-closed s = cond (eqb (length (s .line)) 0) s (takenOf s (lineFeed ∷ []))
+closed s = cond (eqb (length (s .line)) 0) s (stateAfter s (lineFeed ∷ []))
 
 abbrev pub endPrints : State → List ℕ
 endPrints s = printed (closed s)
 
--- ---- the code's helpers
-
--- what a line that has ended gives
-abbrev pub barsIn : Line → List Bar
-barsIn (Prices bar) = bar ∷ []
-barsIn BadShape = []
-barsIn (BadPrice place) = []
-
-abbrev pub stopIn : Line → Stop
-stopIn (Prices bar) = Going
-stopIn BadShape = By refusal.BadShape
-stopIn (BadPrice place) = Price place
+-- ---- the code's helper
 
 -- what reading so many bytes gathers, behind n bars
 abbrev pub gatheredOf : ℕ → ℕ → Read → Gathered

@@ -3,8 +3,7 @@
 // `requires`: each contract is an equation with a definition of specs/, and proofs/Whole.antt has that this is what the input's lines
 // print, however it is cut.
 mod output;
-pub mod reading;
+mod reading;
 pub mod session;
 
-pub use reading::Stop;
 pub use session::Session;

@@ -3,14 +3,17 @@ ghost use mathlib.Core.Path.{_≡_};
 ghost use Prim.Native.Nat.{_+_, _≤_};
 ghost use lib.ListN.{length};
 ghost use Rattle.measures.specs.Bar.{overlay};
+ghost use Rattle.label_lines.specs.Output.{longestCount};
 ghost use Rattle.tally_lines.specs.Output.{cellLine, cellLines, tallyLines, rowRoom, tallyRoom};
 use label_lines::output::print_count;
+use recognisers::counts::LABELS;
+use recognisers::counts::RECOGNISERS;
 use tallies::TallyRow;
 
 // The line of one cell, if it isn't zero.
 fn write_cell(k: u64, c: u8, count: u64, out: &mut [u8], at: usize) -> usize
-    requires { ⌜ at + 58 ≤ length (now out) ⌝ }
-    ensures { λ r. ⌜ (r ≤ at + 58) × (r ≡ at + length (cellLine k c count)) × (now (out .exit) ≡ overlay (now (out .entry)) at (cellLine k c count)) ⌝ }
+    requires { ⌜ at + longestCount ≤ length (now out) ⌝ }
+    ensures { λ r. ⌜ (r ≤ at + longestCount) × (r ≡ at + length (cellLine k c count)) × (now (out .exit) ≡ overlay (now (out .entry)) at (cellLine k c count)) ⌝ }
 {
     if count == 0 {
         at
@@ -27,7 +30,7 @@ fn write_cells(k: u64, row: TallyRow, out: &mut [u8], at: usize) -> usize
     let counts = row.counts;
     let mut c = 0usize;
     let mut place = at;
-    while c < 38 {
+    while c < LABELS {
         let count = counts[c];
         place = write_cell(k, c as u8, count as u64, out, place);
         c += 1;
@@ -36,13 +39,13 @@ fn write_cells(k: u64, row: TallyRow, out: &mut [u8], at: usize) -> usize
 }
 
 // The lines of a table, from the buffer's front on.
-pub(crate) fn write_tally(tally: [TallyRow; 18], out: &mut [u8]) -> usize
+pub(crate) fn write_tally(tally: [TallyRow; RECOGNISERS], out: &mut [u8]) -> usize
     requires { ⌜ tallyRoom ≤ length (now out) ⌝ }
     ensures { λ r. ⌜ (r ≤ tallyRoom) × (r ≡ length (tallyLines 0 tally)) × (now (out .exit) ≡ overlay (now (out .entry)) 0 (tallyLines 0 tally)) ⌝ }
 {
     let mut k = 0usize;
     let mut place = 0usize;
-    while k < 18 {
+    while k < RECOGNISERS {
         let row = tally[k];
         place = write_cells(k as u64, row, out, place);
         k += 1;

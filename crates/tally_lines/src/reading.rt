@@ -6,19 +6,16 @@ ghost use lib.ListN.{length, take};
 ghost use Rattle.measures.specs.Bar.{overlay, pricesOf};
 ghost use Rattle.text.specs.LineText.{lineOf};
 ghost use Rattle.text.specs.Lines.{content, partialOf};
-ghost use Rattle.tally_lines.specs.Session.{goesOn, readFrom, barsIn, stopIn, gatheredOf};
+ghost use Rattle.tally_lines.specs.Session.{readFrom, lineBars, lineStop, gatheredOf};
+use label_lines::Stop;
+use label_lines::output::goes_on;
+use measures::put_bar;
 use recognisers::Refusal;
 use text::Line;
 use text::Partial;
 use text::lines;
 use text::lines::LINE_FEED;
-
-// Whether a line was refused: by a refusal, or by 9 with the field's place.
-pub enum Stop {
-    Going,
-    By(Refusal),
-    Price(u8),
-}
+use text::read_partial;
 
 // The line that has begun behind the bytes used, the bars read, and whether a line was refused.
 pub struct Gathered {
@@ -28,29 +25,15 @@ pub struct Gathered {
     pub stop: Stop,
 }
 
-pub fn goes_on(stop: Stop) -> bool
-    ensures { λ r. ⌜ r ≡ goesOn stop ⌝ }
-{
-    match stop {
-        Stop::Going => true,
-        Stop::By(_) => false,
-        Stop::Price(_) => false,
-    }
-}
-
 // The end of a line behind n bars, with so many bytes used: its bar goes behind theirs.
 fn end_line(line: Partial, used: usize, prices: &mut [f64], n: usize) -> Gathered
     requires { ⌜ 4 * (n + 1) ≤ length (now prices) ⌝ }
-    ensures { λ r. ⌜ (r .line ≡ partialOf []) × (r .used ≡ used) × (r .bars ≡ n + length (barsIn (lineOf (content line)))) × (r .stop ≡ stopIn (lineOf (content line))) × (now (prices .exit) ≡ overlay (now (prices .entry)) (4 * n) (pricesOf (barsIn (lineOf (content line))))) ⌝ }
+    ensures { λ r. ⌜ (r .line ≡ partialOf []) × (r .used ≡ used) × (r .bars ≡ n + length (lineBars (lineOf (content line)))) × (r .stop ≡ lineStop (lineOf (content line))) × (now (prices .exit) ≡ overlay (now (prices .entry)) (4 * n) (pricesOf (lineBars (lineOf (content line))))) ⌝ }
 {
     let begun = lines::begin();
-    match lines::read(line) {
+    match read_partial(line) {
         Line::Prices(bar) => {
-            let at = 4 * n;
-            prices[at] = bar.open;
-            prices[at + 1] = bar.close;
-            prices[at + 2] = bar.high;
-            prices[at + 3] = bar.low;
+            put_bar(bar, prices, n);
             Gathered {
                 line: begun,
                 used,

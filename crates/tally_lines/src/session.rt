@@ -7,32 +7,36 @@ ghost use lib.Dec.{leb};
 ghost use lib.ListN.{length, take};
 ghost use Rattle.measures.specs.Bar.{barsOf, overlay};
 ghost use Rattle.text.specs.Lines.{content, partialOf};
+ghost use Rattle.label_lines.specs.Output.{goesOn};
 ghost use Rattle.tally_lines.specs.Output.{tallyRoom};
-ghost use Rattle.tally_lines.specs.Session.{goesOn, stateOf, sessionOf, freshState, fedAll, settledBy, takenOf, printed, closed, endPrints};
+ghost use Rattle.tally_lines.specs.Session.{stateOf, sessionOf, freshState, fedAll, settledBy, stateAfter, printed, closed, endPrints};
 use crate::output;
 use crate::reading;
 use crate::reading::Gathered;
-use crate::reading::Stop;
 use bar_box::BarBox;
-use label_lines::output::print_bad_price;
+use label_lines::Stop;
+use label_lines::output::LONGEST_COUNT;
+use label_lines::output::goes_on;
 use label_lines::output::print_refusal;
 use measures::least;
 use recognisers::Thresholds;
 use recognisers::call::Verdict;
+use recognisers::counts::LABELS;
 use recognisers::counts::MOST_BARS;
+use recognisers::counts::RECOGNISERS;
 use tallies::Tallied;
 use tallies::TallyRow;
 use text::Partial;
 use text::lines;
 
 // The room for what the input's end may print: a line for each cell.
-const ROOM: usize = 39672;
+const ROOM: usize = RECOGNISERS * LABELS * LONGEST_COUNT;
 
 // The line that has begun, the box, the tally, and whether a line was refused.
 pub struct Session {
     pub line: Partial,
     pub held: BarBox,
-    pub tally: [TallyRow; 18],
+    pub tally: [TallyRow; RECOGNISERS],
     pub stop: Stop,
 }
 
@@ -70,7 +74,7 @@ fn batch(count: u32) -> usize
 
 // Feeds bars all at once, which leaves what feeding them one by one does (proofs/BatchLaws.antt). No bars, no feed: a tally that doesn't add
 // up is refused with the first bar.
-fn feed_all(held: BarBox, tally: [TallyRow; 18], prices: &[f64]) -> Tallied
+fn feed_all(held: BarBox, tally: [TallyRow; RECOGNISERS], prices: &[f64]) -> Tallied
     requires { ⌜ (length (now prices) ≡ 4 * length (barsOf (now prices))) × (length (now prices) ≤ 4096) × (1 < length (barsOf (now prices)) → held .count + length (barsOf (now prices)) ≤ 1000000) ⌝ }
     ensures { λ r. ⌜ r ≡ fedAll held tally (barsOf (now (prices .entry))) ⌝ }
 {
@@ -117,7 +121,7 @@ fn settle(fed: Tallied, got: Gathered) -> Session
 // Bytes up to a batch's end, or all of them.
 fn take_in(st: Session, chunk: &[u8]) -> Taken
     requires { ⌜ (goesOn (st .stop) ≡ true) × (1 ≤ length (now chunk)) ⌝ }
-    ensures { λ r. ⌜ (1 ≤ r .used) × (r .used ≤ length (now (chunk .entry))) × (r .session ≡ sessionOf (takenOf (stateOf st) (take (r .used) (now (chunk .entry))))) ⌝ }
+    ensures { λ r. ⌜ (1 ≤ r .used) × (r .used ≤ length (now (chunk .entry))) × (r .session ≡ sessionOf (stateAfter (stateOf st) (take (r .used) (now (chunk .entry))))) ⌝ }
 {
     let begun = st.line;
     let held = st.held;
@@ -136,7 +140,7 @@ fn take_in(st: Session, chunk: &[u8]) -> Taken
 
 // Bytes of input.
 pub fn absorb(st: Session, chunk: &[u8]) -> Session
-    ensures { λ r. ⌜ r ≡ sessionOf (takenOf (stateOf st) (now (chunk .entry))) ⌝ }
+    ensures { λ r. ⌜ r ≡ sessionOf (stateAfter (stateOf st) (now (chunk .entry))) ⌝ }
 {
     // the line anew, so that the session is one value also where no byte is used
     let begun = st.line;
@@ -151,13 +155,13 @@ pub fn absorb(st: Session, chunk: &[u8]) -> Session
         stop,
     };
     let mut used = 0usize;
-    let mut going = reading::goes_on(stop);
+    let mut going = goes_on(stop);
     while (used < chunk.len()) & going {
         let taken = take_in(session, &chunk[used..]);
         session = taken.session;
         used += taken.used;
         let now = session.stop;
-        going = reading::goes_on(now);
+        going = goes_on(now);
     }
     session
 }
@@ -184,13 +188,12 @@ fn print(st: Session, out: &mut [u8]) -> usize
     let held = st.held;
     let ordinal = held.count as u64 + 1;
     let stop = st.stop;
-    match stop {
-        Stop::Going => {
-            let tally = st.tally;
-            output::write_tally(tally, out)
-        }
-        Stop::By(why) => print_refusal(ordinal, why, out),
-        Stop::Price(place) => print_bad_price(ordinal, place, out),
+    let going = goes_on(stop);
+    if going {
+        let tally = st.tally;
+        output::write_tally(tally, out)
+    } else {
+        print_refusal(ordinal, stop, out)
     }
 }
 

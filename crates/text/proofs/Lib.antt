@@ -2,6 +2,5 @@
 pub mod RunLaws
 pub mod PartLaws
 pub mod DigitLaws
-pub mod LabelLaws
 pub mod LineLaws
 pub mod SameLines

@@ -11,14 +11,16 @@ use lib.ListN.{length, take, drop, replicate, length-take, length-map}
 use lib.Seq.{take-all, take-append-seam}
 use Rattle.recognisers.specs.Number.{longestLine}
 use Rattle.recognisers.specs.declared.call.Refusal.the-variants as refusal
+use Rattle.recognisers.specs.declared.call.Verdict.{Verdict}
 use Rattle.recognisers.specs.declared.call.Verdict.the-variants.{Accepted, Denied}
-use Rattle.recognisers.specs.Refusal.{badShape, badPrice, firstTrue}
+use Rattle.recognisers.specs.Refusal.{badShape, badPrice, firstTrue, verdictNumber}
 use Rattle.text.specs.declared.lines.Partial.{Partial}
 use Rattle.text.specs.declared.price_text.Price.{Price}
+use Rattle.text.specs.declared.line_text.Line.{Line}
 use Rattle.text.specs.declared.line_text.Line.the-variants.{BadShape}
 use Rattle.text.specs.PriceText.{runOf}
 use Rattle.text.specs.Lines.{lineFeed, piecesFrom, piecesOf, endedLines, linesFrom, linesOf, pieceEnd, keptLine, content, partialOf}
-use Rattle.text.specs.LineText.{pricesIn, allPrices, lineVerdict, answerTo, saidOf, lineOf, verdictOf, fieldsLine}
+use Rattle.text.specs.LineText.{pricesIn, allPrices, leftmostBad, lineVerdict, verdictIn, badPlaces, answerTo, saidOf, lineOf, verdictOf, placesIn, fieldsLine}
 use Rattle.text.proofs.PartLaws.{to-end}
 
 -- ---- pieces
@@ -152,13 +154,27 @@ pub partial-fields : (p : Partial) (l : List ℕ) → p ≡ partialOf l → (p .
 unfolding partialOf
 partial-fields p l e = (ap (λ (q : Partial). q .bytes) e, ap (λ (q : Partial). q .len) e)
 
--- the answer's verdict is the first refusal that is true
-pub said-verdict : (bytes : ℕ) (fields : List Price) → verdictOf (saidOf bytes fields) ≡ lineVerdict bytes fields
-unfolding saidOf lineVerdict firstTrue
-said-verdict bytes fields = go (badShape bytes (length fields) .met) (badPrice bytes (length fields) (allPrices fields) .met)
-  where
-    go : (a b : Bool) → let verdict = cond a (Denied refusal.BadShape) (cond b (Denied refusal.BadPrice) Accepted) in
-        verdictOf (answerTo verdict fields) ≡ verdict
-    go true b = refl
-    go false true = refl
-    go false false = refl
+-- ---- the answer's number and place
+
+-- its verdict is the first refusal that is true, and it has a place with 9
+module _ (bytes : ℕ) (fields : List Price) where
+  abbrev place : Verdict → List ℕ
+  place v = cond (eqb (verdictNumber v) 9) (leftmostBad fields ∷ []) []
+
+  said : let v = lineVerdict bytes fields in (verdictOf (answerTo v fields) ≡ v) × (placesIn (answerTo v fields) ≡ place v)
+  unfolding lineVerdict firstTrue
+  said = go (badShape bytes (length fields) .met) (badPrice bytes (length fields) (allPrices fields) .met)
+    where
+      go : (a b : Bool) → let v = cond a (Denied refusal.BadShape) (cond b (Denied refusal.BadPrice) Accepted) in
+          (verdictOf (answerTo v fields) ≡ v) × (placesIn (answerTo v fields) ≡ place v)
+      go true b = (refl, refl)
+      go false true = (refl, refl)
+      go false false = (refl, refl)
+
+  pub said-verdict : verdictOf (saidOf bytes fields) ≡ lineVerdict bytes fields
+  unfolding saidOf
+  said-verdict = said .0
+
+pub answered : (s : List ℕ) (r : Line) → r ≡ lineOf s → (r ≡ lineOf s) × ((verdictNumber (verdictOf r) ≡ verdictNumber (verdictIn s)) × (placesIn r ≡ badPlaces s))
+unfolding lineOf saidOf
+answered s r e = let is = said (length s) (pricesIn s) in (e, (rw e (ap verdictNumber (is .0)), rw e (is .1)))

@@ -1,4 +1,3 @@
-pub mod LabelText
 pub mod PriceText
 pub mod LineText
 pub mod Lines

@@ -9,7 +9,7 @@ use Rattle.measures.specs.Bar.{barOf}
 use Rattle.recognisers.specs.declared.call.Refusal.the-variants as refusal
 use Rattle.recognisers.specs.declared.call.Verdict.{Verdict}
 use Rattle.recognisers.specs.declared.call.Verdict.the-variants.{Accepted, Denied}
-use Rattle.recognisers.specs.Refusal.{refusalNumber, badShape, badPrice, firstTrue}
+use Rattle.recognisers.specs.Refusal.{refusalNumber, badShape, badPrice, firstTrue, verdictNumber}
 use Rattle.text.specs.declared.price_text.Price.{Price}
 use Rattle.text.specs.declared.price_text.Price.the-variants.{Value, Bad}
 use Rattle.text.specs.declared.line_text.Line.{Line}
@@ -49,6 +49,13 @@ leftmostBad fields = suc (pricesBefore fields)
 unfoldable pub lineVerdict : ℕ → List Price → Verdict
 lineVerdict bytes fields = firstTrue (badShape bytes (length fields) ∷ badPrice bytes (length fields) (allPrices fields) ∷ [])
 
+abbrev pub verdictIn : List ℕ → Verdict
+verdictIn s = lineVerdict (length s) (pricesIn s)
+
+-- with 9 the place of the leftmost field that is no price
+abbrev pub badPlaces : List ℕ → List ℕ
+badPlaces s = cond (eqb (verdictNumber (verdictIn s)) 9) (leftmostBad (pricesIn s) ∷ []) []
+
 -- ---- what a line says
 
 -- the value of the field at a place, from 0; one that is no price is never asked for
@@ -59,7 +66,7 @@ valueOf Bad = nan
 abbrev pub valueAt : List Price → ℕ → Float
 valueAt fields i = valueOf (getD fields i Bad)
 
--- the bar; with 9 the place of the leftmost field that is no price; 8 alone
+-- the bar; 9 with the place; 8 alone
 abbrev pub answerTo : Verdict → List Price → Line
 answerTo Accepted fields = Prices (barOf (valueAt fields 0) (valueAt fields 1) (valueAt fields 2) (valueAt fields 3))
 answerTo (Denied r) fields = cond (eqb (refusalNumber r) 9) (BadPrice (leftmostBad fields)) BadShape

@@ -1,7 +1,7 @@
 -- "The other ways in", text: a line ends before a line feed or at the input's end; an empty line is a line, but after a line feed that ends
 -- the input no further line begins.
 use Prim.Native.Nat.{ℕ, suc, _-_}
-use mathlib.Core.Bool.{Bool, cond, not}
+use mathlib.Core.Bool.{cond, not}
 use mathlib.Core.List.{List, [], _∷_, _++_}
 use lib.Dec.{eqb}
 use lib.ListN.{length, take, replicate}

@@ -11,6 +11,7 @@ pub use label_texts::label_text::code_of_text;
 pub use label_texts::label_text::text_of;
 pub use line_text::Line;
 pub use line_text::read_line;
+pub use line_text::read_partial;
 pub use lines::Partial;
 pub use price_text::Price;
 pub use price_text::read_price;

@@ -1,12 +1,17 @@
 // A bar as a line of text.
 ghost use mathlib.Core.Path.{_≡_};
 ghost use mathlib.Core.List.{[], _∷_};
-ghost use Rattle.text.specs.Lines.{piecesOf};
-ghost use Rattle.text.specs.LineText.{comma, fieldsLine, saidOf, lineOf, verdictOf};
+ghost use Rattle.recognisers.specs.Refusal.{verdictNumber};
+ghost use Rattle.text.specs.Lines.{piecesOf, content};
+ghost use Rattle.text.specs.LineText.{comma, fieldsLine, saidOf, lineOf, verdictIn, badPlaces, verdictOf, placesIn};
+use crate::lines::KEPT_BYTES;
+use crate::lines::LONGEST_LINE;
+use crate::lines::Partial;
 use crate::lines::piece_end;
 use crate::price_text::Price;
 use crate::price_text::read_price;
 use measures::Bar;
+use measures::least;
 use recognisers::call::Refusal;
 use recognisers::call::Verdict;
 
@@ -20,9 +25,6 @@ pub enum Line {
 
 // What stands between two fields.
 pub const COMMA: u8 = 44;
-
-// The longest line.
-const LONGEST: usize = 80;
 
 // The line that has these four fields, read as prices.
 fn four(open: Price, close: Price, high: Price, low: Price) -> Line
@@ -98,9 +100,11 @@ fn after_open(open: &[u8], s: &[u8]) -> Line
 
 // The bar that a line is the text of, or what is wrong with it. No price is read before the number of fields is known.
 pub fn read_line(s: &[u8]) -> Line
-    ensures { λ r. ⌜ r ≡ lineOf (now (s .entry)) ⌝ }
+    ensures answer { λ r. ⌜ r ≡ lineOf (now (s .entry)) ⌝ }
+    ensures number { λ r. ⌜ verdictNumber (verdictOf r) ≡ verdictNumber (verdictIn (now (s .entry))) ⌝ }
+    ensures place { λ r. ⌜ placesIn r ≡ badPlaces (now (s .entry)) ⌝ }
 {
-    if LONGEST < s.len() {
+    if LONGEST_LINE < s.len() {
         return Line::BadShape;
     }
     let k = piece_end(COMMA, s);
@@ -109,6 +113,17 @@ pub fn read_line(s: &[u8]) -> Line
     } else {
         Line::BadShape
     }
+}
+
+// The same of a line that has ended.
+pub fn read_partial(line: Partial) -> Line
+    ensures answer { λ r. ⌜ r ≡ lineOf (content line) ⌝ }
+    ensures number { λ r. ⌜ verdictNumber (verdictOf r) ≡ verdictNumber (verdictIn (content line)) ⌝ }
+    ensures place { λ r. ⌜ placesIn r ≡ badPlaces (content line) ⌝ }
+{
+    let bytes = line.bytes;
+    let n = least(line.len, KEPT_BYTES);
+    read_line(&bytes[..n])
 }
 
 // Refusal 8 or 9, or none.

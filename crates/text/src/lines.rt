@@ -4,14 +4,17 @@ ghost use mathlib.Core.List.{[], _++_};
 ghost use Prim.Native.Nat.{_≤_};
 ghost use lib.Dec.{eqb};
 ghost use lib.ListN.{length};
-ghost use Rattle.text.specs.LineText.{lineOf};
 ghost use Rattle.text.specs.Lines.{pieceEnd, keptLine, content, partialOf};
-use crate::line_text;
-use crate::line_text::Line;
 use measures::least;
 
 // What ends a line.
 pub const LINE_FEED: u8 = 10;
+
+// The most bytes of a line.
+pub const LONGEST_LINE: usize = 80;
+
+// Of a longer line so many are kept, which are enough to tell.
+pub(crate) const KEPT_BYTES: usize = LONGEST_LINE + 1;
 
 // How many bytes of s come before the first separator: all, if it has none.
 pub fn piece_end(separator: u8, s: &[u8]) -> usize
@@ -27,10 +30,9 @@ pub fn piece_end(separator: u8, s: &[u8]) -> usize
     i
 }
 
-// The bytes of a line that has begun, of which the first len count. Of a line that is too long the first 81 are kept, which are enough
-// to tell.
+// The bytes of a line that has begun, of which the first len count.
 pub struct Partial {
-    pub bytes: [u8; 81],
+    pub bytes: [u8; KEPT_BYTES],
     pub len: usize,
 }
 
@@ -39,7 +41,7 @@ pub fn begin() -> Partial
     ensures { λ r. ⌜ r ≡ partialOf [] ⌝ }
 {
     Partial {
-        bytes: [0; 81],
+        bytes: [0; KEPT_BYTES],
         len: 0,
     }
 }
@@ -50,7 +52,7 @@ fn append(line: Partial, s: &[u8]) -> Partial
     ensures { λ r. ⌜ r ≡ partialOf (keptLine (content line ++ now (s .entry))) ⌝ }
 {
     let at = line.len;
-    let n = least(s.len(), 81 - at);
+    let n = least(s.len(), KEPT_BYTES - at);
     let mut bytes = line.bytes;
     let mut i = 0usize;
     while i < n {
@@ -66,7 +68,7 @@ pub fn extend(line: Partial, s: &[u8]) -> Partial
     ensures { λ r. ⌜ r ≡ partialOf (keptLine (content line ++ now (s .entry))) ⌝ }
 {
     let bytes = line.bytes;
-    let begun = least(line.len, 81);
+    let begun = least(line.len, KEPT_BYTES);
     let copied = append(begin(), &bytes[..begun]);
     append(copied, s)
 }
@@ -76,13 +78,4 @@ pub fn is_empty(line: Partial) -> bool
     ensures { λ r. ⌜ r ≡ eqb (length (content line)) 0 ⌝ }
 {
     line.len == 0
-}
-
-// What the line says.
-pub fn read(line: Partial) -> Line
-    ensures { λ r. ⌜ r ≡ lineOf (content line) ⌝ }
-{
-    let bytes = line.bytes;
-    let n = least(line.len, 81);
-    line_text::read_line(&bytes[..n])
 }

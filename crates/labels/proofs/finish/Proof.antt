@@ -7,40 +7,28 @@ use lib.Seq.{length-take-le}
 use borrow.Author.Needs.{needs}
 use Rattle.labels.proofs.finish.Statement.{statement}
 use Rattle.labels.proofs.finish.Tie as tie
-use Rattle.labels.proofs.finish.Reads as reads
-use Rattle.labels.proofs.finish.Lts as lts
-use Rattle.io.proofs.large_buffer.Reads as large-buffer-reads
-use Rattle.io.proofs.write_all.Reads as write-all-reads
-use Rattle.label_lines.proofs.session.end.Reads as end-reads
 
--- src/main.rt:37:19
 large-buffer-requires : tie.Need-large-buffer-requires
 large-buffer-requires c κs = search needs
 
--- src/main.rt:38:30
 slice-aggregate-end : tie.Need-slice-aggregate-end
 slice-aggregate-end c = search needs
 
--- src/main.rt:38:9
 end-requires : tie.Need-end-requires
 end-requires c κs = search needs
 
--- src/main.rt:39:34
 array-share-prefix-out : tie.Need-array-share-prefix-out
 array-share-prefix-out c = search needs
 
--- src/main.rt:39:34
 slice-aggregate-write-all : tie.Need-slice-aggregate-write-all
 slice-aggregate-write-all c =
     let call = c .before .before .end in
     let within : call .result ≤ length (call .last .1 .0) = omega (arith, call .ensures .0 .0, call .kept .1 .0) in
     sym (length-take-le (call .result) (call .last .1 .0) within)
 
--- src/main.rt:39:5
 write-all-requires : tie.Need-write-all-requires
 write-all-requires c κs = search needs
 
--- src/main.rt:36:1
 returns : tie.Need-returns
 returns c = search needs
 

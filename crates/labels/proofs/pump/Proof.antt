@@ -15,11 +15,6 @@ use Rattle.label_lines.specs.Session.{State, usedOf}
 use Rattle.label_lines.proofs.SessionLaws.{used-some, used-most}
 use Rattle.labels.proofs.pump.Statement.{statement}
 use Rattle.labels.proofs.pump.Tie as tie
-use Rattle.labels.proofs.pump.Reads as reads
-use Rattle.labels.proofs.pump.Lts as lts
-use Rattle.io.proofs.large_buffer.Reads as large-buffer-reads
-use Rattle.io.proofs.write_all.Reads as write-all-reads
-use Rattle.label_lines.proofs.session.absorb.Reads as absorb-reads
 
 abbrev Inv-loop : tie.InvT-loop
 Inv-loop chunk out₀ now₀ at₀ goes-on₀ out now at goes-on = (at ≤ length chunk) × (length out ≡ 65536) × (goes-on ≡ true → now .stopped ≡ false)
@@ -38,50 +33,39 @@ module _ (chunk : List ℕ) (at : ℕ) where
   within : (n : ℕ) → at ≤ length chunk → (room : ℕ) (s : State) → n ≡ usedOf room s (take (length chunk - at) (drop at chunk)) → at + n ≤ length chunk
   within n inside room s e = omega (arith, used-most room s (take (length chunk - at) (drop at chunk)), rest)
 
--- src/main.rt:16:19
 large-buffer-requires : tie.Need-large-buffer-requires Inv-loop μ-loop
 large-buffer-requires c κs = search needs
 
--- src/main.rt:20:5
 loop-holds : tie.Need-loop-holds Inv-loop μ-loop
 loop-holds c = (omega arith, sym (c .before .large-buffer .ensures), λ e. not-true (c .before .before .before .args .st .stopped) e)
 
--- src/main.rt:21:42
 sub-absorb : tie.Need-sub-absorb Inv-loop μ-loop
 sub-absorb c = search needs
 
--- src/main.rt:21:42
 part-absorb-start : tie.Need-part-absorb-start Inv-loop μ-loop
 part-absorb-start c = search needs
 
--- src/main.rt:21:42
 part-absorb-end : tie.Need-part-absorb-end Inv-loop μ-loop
 part-absorb-end c = search needs
 
--- src/main.rt:21:56
 slice-aggregate-absorb : tie.Need-slice-aggregate-absorb Inv-loop μ-loop
 slice-aggregate-absorb c = search needs
 
--- src/main.rt:21:13
 absorb-requires : tie.Need-absorb-requires Inv-loop μ-loop
 absorb-requires c κs = search needs
 
--- src/main.rt:24:50
 array-share-prefix-out : tie.Need-array-share-prefix-out Inv-loop μ-loop
 array-share-prefix-out c = search needs
 
--- src/main.rt:24:50
 slice-aggregate-write-all : tie.Need-slice-aggregate-write-all Inv-loop μ-loop
 slice-aggregate-write-all c =
     let call = c .before .before .before .absorb in
     let within : call .result .written ≤ length (call .last .1 .1 .0) = omega (arith, call .ensures .0 .1, call .kept .1 .1 .0) in
     sym (length-take-le (call .result .written) (call .last .1 .1 .0) within)
 
--- src/main.rt:24:13
 write-all-requires : tie.Need-write-all-requires Inv-loop μ-loop
 write-all-requires c κs = search needs
 
--- src/main.rt:26:9
 add-at : tie.Need-add-at Inv-loop μ-loop
 add-at c =
     let at-loop = c .before .before .before .before .before .before .before .before .before .before in
@@ -92,7 +76,6 @@ add-at c =
     let most = within chunk (loop .at) (call .result .used) (inv .0) _ _ (ap (λ (a : Absorbed). a .used) (call .ensures .0 .0)) in
     search needs
 
--- src/main.rt:20:5
 loop-less : tie.Need-loop-less Inv-loop μ-loop
 loop-less c =
     let at-loop-in = c .before .before .before .before .before .before .before .before .before in
@@ -108,7 +91,6 @@ loop-less c =
     let some : 1 ≤ call .result .used = rw used (used-some _ _ _ (inv .2 (test .1)) (rest-some chunk (loop .at) inside) (omega (arith, inv .1))) in
     omega (arith, some, most, inside)
 
--- src/main.rt:20:5
 loop-again : tie.Need-loop-again Inv-loop μ-loop
 loop-again c =
     let at-loop = c .before .before .before .before .before .before .before .before .before .before in
@@ -119,7 +101,6 @@ loop-again c =
     let most = within chunk (loop .at) (call .result .used) (inv .0) _ _ (ap (λ (a : Absorbed). a .used) (call .ensures .0 .0)) in
     (most, call .kept .1 .1 .0 ∙ inv .1, λ e. not-true (call .result .session .stopped) (both (c .before .before .write-all .result) (not (call .result .session .stopped)) e .1))
 
--- src/main.rt:15:1
 returns : tie.Need-returns Inv-loop μ-loop
 returns c = search needs
 

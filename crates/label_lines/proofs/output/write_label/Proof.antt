@@ -1,7 +1,7 @@
 -- The bytes that count are the label's. Assumes nothing.
 use native.Mathlib.Omega.{arith}
 use borrow.Author.Needs.{needs}
-use Rattle.text.proofs.LabelLaws.{short, text-len, text-length, text-bytes}
+use Rattle.label_texts.proofs.LabelLaws.{short, text-len, text-length, text-bytes}
 use Rattle.label_lines.proofs.output.write_label.Statement.{statement}
 use Rattle.label_lines.proofs.output.write_label.Tie as tie
 

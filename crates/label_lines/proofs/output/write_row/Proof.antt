@@ -2,7 +2,7 @@
 use mathlib.Core.List.{_++_}
 use native.Mathlib.Omega.{arith}
 use borrow.Author.Needs.{needs}
-use Rattle.text.specs.LabelText.{bytesOf}
+use Rattle.label_texts.specs.LabelText.{bytesOf}
 use Rattle.text.specs.LineText.{comma}
 use Rattle.text.specs.Lines.{lineFeed}
 use Rattle.label_lines.specs.Output.{numeral, field, rowLine}

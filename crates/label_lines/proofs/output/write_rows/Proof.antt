@@ -6,7 +6,8 @@ use borrow.Author.Needs.{needs}
 use lib.ListN.{length, getD, drop, length-append}
 use Rattle.measures.specs.Bar.{overlay}
 use Rattle.measures.proofs.Overlay.{overlay-none}
-use Rattle.label_lines.specs.Output.{rowLines}
+use Rattle.recognisers.specs.Number.{recognisers}
+use Rattle.label_lines.specs.Output.{rowLines, longestRow}
 use Rattle.label_lines.proofs.OutputLaws.{Written, written-on, pairLine, pair-most, rows-most, rows-end, rows-next}
 use Rattle.label_lines.proofs.output.write_rows.Statement.{statement}
 use Rattle.label_lines.proofs.output.write_rows.Tie as tie
@@ -14,10 +15,10 @@ use Rattle.label_lines.proofs.output.write_rows.Tie as tie
 abbrev Inv-loop : tie.InvT-loop
 Inv-loop ordinal sheet out₀ at k₀ place₀ out k place =
     let rest = rowLines ordinal k (drop (2 * k) sheet) in
-    (k ≤ 18) × (length out ≡ length out₀) × (place ≤ at + 74 * k) × Written out₀ at (rowLines ordinal 0 sheet) (overlay out place rest) (place + length rest)
+    (k ≤ recognisers) × (length out ≡ length out₀) × (place ≤ at + longestRow * k) × Written out₀ at (rowLines ordinal 0 sheet) (overlay out place rest) (place + length rest)
 
 abbrev μ-loop : tie.MeasureT-loop
-μ-loop ordinal sheet out₀ at k₀ place₀ out k place = 18 - k
+μ-loop ordinal sheet out₀ at k₀ place₀ out k place = recognisers - k
 
 loop-holds : tie.Need-loop-holds Inv-loop μ-loop
 loop-holds c = (omega arith, refl, omega arith, (refl, refl))

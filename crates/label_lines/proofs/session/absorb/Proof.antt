@@ -1,6 +1,6 @@
 -- The loop's invariant: the bytes passed are taken in, and the session and the buffer are what they leave. Where the loop ends, no byte
 -- of the rest is taken in. Assumes nothing.
-use Prim.Native.Nat.{_+_, _-_, _≤_, _<_}
+use Prim.Native.Nat.{suc, _+_, _-_, _≤_, _<_}
 use mathlib.Core.List.{[], _++_, append-nil}
 use mathlib.Core.Path.{_≡_, refl, sym, ap, _∙_}
 use native.Mathlib.Omega.{arith}
@@ -9,11 +9,12 @@ use lib.ListN.{length, take, drop, length-map, length-take, length-drop, length-
 use lib.Seq.{take-all}
 use Rattle.measures.specs.Bar.{overlay}
 use Rattle.measures.proofs.Overlay.{overlay-none, overlay-more, length-overlay}
+use Rattle.recognisers.specs.Number.{longestLine}
 use Rattle.text.specs.Lines.{content, keptLine, partialOf}
 use Rattle.text.proofs.LineLaws.{content-partial}
 use Rattle.text.proofs.PartLaws.{to-end}
 use Rattle.label_lines.specs.declared.session.Session.{Session}
-use Rattle.label_lines.specs.Session.{State, stateOf, sessionOf, leaves, prints, usedOf}
+use Rattle.label_lines.specs.Session.{State, stateOf, sessionOf, stateAfter, prints, usedOf}
 use Rattle.label_lines.proofs.SessionLaws.{goes-on, rest-stays, used-all, turn-leaves, turn-prints, turn-used, state-session, session-state}
 use Rattle.label_lines.proofs.session.absorb.Statement.{statement}
 use Rattle.label_lines.proofs.session.absorb.Tie as tie
@@ -23,7 +24,7 @@ Inv-loop chunk out₀ room limit session₀ used₀ written₀ out session used 
     (used ≤ length chunk)
     × (written ≤ length out₀)
     × (length out ≡ length out₀)
-    × (session ≡ sessionOf (leaves (stateOf session₀) (take used chunk)))
+    × (session ≡ sessionOf (stateAfter (stateOf session₀) (take used chunk)))
     × (written ≡ length (prints (stateOf session₀) (take used chunk)))
     × (out ≡ overlay out₀ 0 (prints (stateOf session₀) (take used chunk)))
     × (usedOf (length out₀) (stateOf session₀) (take used chunk) ≡ used)
@@ -44,7 +45,7 @@ extend-requires : tie.Need-extend-requires Inv-loop μ-loop
 extend-requires c κs = search needs
 
 loop-holds : tie.Need-loop-holds Inv-loop μ-loop
-unfolding leaves prints usedOf
+unfolding stateAfter prints usedOf
 loop-holds c =
     let args = c .before .before .before .before .before .before .before .args in
     let st : Session = record { line = c .before .extend .result; held = args .st .held; stopped = args .st .stopped } in
@@ -96,7 +97,7 @@ loop-again c =
     let sure = goes-on (loop .used) (length chunk) (least .least .result) (loop .written) _ (loop .session .stopped) (c .before .before .before .before .before .before .before .if1 .taken) in
     let turn = c .before .before .before .before .advance in
     let did = rw (to-end chunk (loop .used)) at (turn .ensures) in
-    let here : stateOf (loop .session) ≡ leaves s (take (loop .used) chunk) = rw (inv .3) (state-session _) in
+    let here : stateOf (loop .session) ≡ stateAfter s (take (loop .used) chunk) = rw (inv .3) (state-session _) in
     let leaves-on = turn-leaves s (stateOf (loop .session)) chunk (loop .used) (turn .result .used) here in
     let prints-on = turn-prints s (stateOf (loop .session)) chunk (loop .used) (turn .result .used) here in
     let before = prints s (take (loop .used) chunk) in
@@ -122,12 +123,12 @@ returns c =
     let chunk = args .chunk .now in
     let len = length (args .out .now) in
     let s = stateOf (args .st) in
-    let all-bytes : length (args .st .line .bytes) ≡ 81 = simp length-map at (start .good .0 .1 .1 .0 .1 .1 .0 .1 .0 .1) in
-    let short : length (s .line) ≤ 81 = rw length-take (omega arith) in
+    let all-bytes : length (args .st .line .bytes) ≡ suc longestLine = simp length-map at (start .good .0 .1 .1 .0 .1 .1 .0 .1 .0 .1) in
+    let short : length (s .line) ≤ suc longestLine = rw length-take (omega arith) in
     let took : extended .result ≡ partialOf (keptLine (s .line ++ [])) = extended .ensures in
-    let kept : content (extended .result) ≡ s .line = rw (took, content-partial (keptLine (s .line ++ [])), append-nil) (take-all 81 (s .line) short) in
+    let kept : content (extended .result) ≡ s .line = rw (took, content-partial (keptLine (s .line ++ [])), append-nil) (take-all (suc longestLine) (s .line) short) in
     let inv = rw kept at (loop .inv) in
-    let here : stateOf (loop .session) ≡ leaves s (take (loop .used) chunk) = rw (inv .3) (state-session _) in
+    let here : stateOf (loop .session) ≡ stateAfter s (take (loop .used) chunk) = rw (inv .3) (state-session _) in
     let none = rest-stays (stateOf (loop .session)) chunk (loop .used) (least .least .result) (loop .written) len (least .least .ensures) (inv .1) (c .if1 .left) in
     let all : usedOf len s chunk ≡ loop .used = used-all s chunk (loop .used) len (inv .0) (inv .6) (rw (here, inv .4) at none) in
     rw all ((rw (inv .3, inv .4), inv .1), inv .5)

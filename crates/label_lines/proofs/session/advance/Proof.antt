@@ -1,3 +1,4 @@
+-- Bytes up to the end of a line, which is stepped over, or all of them. Assumes nothing.
 use Prim.Native.Nat.{_-_, _≤_, _<_}
 use mathlib.Core.List.{_++_}
 use mathlib.Core.Path.{_≡_, sym}
@@ -12,42 +13,28 @@ use Rattle.label_lines.specs.Session.{stateOf}
 use Rattle.label_lines.proofs.SessionLaws.{line-used, rest-used, line-taken, rest-taken}
 use Rattle.label_lines.proofs.session.advance.Statement.{statement}
 use Rattle.label_lines.proofs.session.advance.Tie as tie
-use Rattle.label_lines.proofs.session.advance.Reads as reads
-use Rattle.label_lines.proofs.session.advance.Lts as lts
-use Rattle.label_lines.proofs.session.step.Reads as step-reads
-use Rattle.text.proofs.lines.begin.Reads as begin-reads
-use Rattle.text.proofs.lines.extend.Reads as extend-reads
-use Rattle.text.proofs.lines.piece_end.Reads as piece-end-reads
 
--- src/session.rt:118:9
 piece-end-requires : tie.Need-piece-end-requires
 piece-end-requires c κs = search needs
 
--- src/session.rt:121:37
 slice-aggregate-extend : tie.Need-slice-aggregate-extend
 slice-aggregate-extend c = sym (length-take-le _ _ (c .before .before .before .piece-end .ensures .1))
 
--- src/session.rt:121:9
 extend-requires : tie.Need-extend-requires
 extend-requires c κs = search needs
 
--- src/session.rt:123:13
 step-requires : tie.Need-step-requires
 step-requires c κs = search needs
 
--- src/session.rt:127:23
 begin-requires : tie.Need-begin-requires
 begin-requires c κs = search needs
 
--- src/session.rt:131:19
 add-t20 : tie.Need-add-t20
 add-t20 c = search needs
 
--- src/session.rt:114:1
 same-length : tie.Need-same-length
 same-length c = search needs
 
--- src/session.rt:114:1
 returns : tie.Need-returns
 returns c =
     let extended = c .before .before .before .before .before .before .before in
@@ -66,7 +53,6 @@ returns c =
     let did = rw says at stepped in
     ((omega arith, omega (arith, inside), taken), (rw (used .0, c .begin .ensures, did .0, did .1), did .2, rw (used .1) (did .3), rw (used .1) (did .4)))
 
--- src/session.rt:114:1
 returns-2 : tie.Need-returns-2
 returns-2 c =
     let found = c .before .before .before .before .before in

@@ -1,10 +1,10 @@
--- The bytes that count, which are at most 15. Assumes nothing.
+-- The bytes that count. Assumes nothing.
 use mathlib.Core.Path.{_≡_}
 use native.Mathlib.Omega.{arith}
 use borrow.Author.Tests.{le-leb, lt-leb}
 use borrow.Author.Needs.{needs}
 use lib.ListN.{length, length-map, length-take}
-use Rattle.label_texts.specs.LabelText.{codeOfText}
+use Rattle.label_texts.specs.LabelText.{mostBytes, codeOfText}
 use Rattle.label_texts.proofs.label_text.code_of_text.Statement.{statement}
 use Rattle.label_texts.proofs.label_text.code_of_text.Tie as tie
 
@@ -15,8 +15,8 @@ returns : tie.Need-returns
 unfolding codeOfText
 returns c = rw (lt-leb _ _ (c .if1 .taken))
 
--- a text's array has its 15 bytes: what owning the parameter tells
-all-bytes : (c : tie.Start) → length (c .args .t .bytes) ≡ 15
+-- a text's array has all its bytes: what owning the parameter tells
+all-bytes : (c : tie.Start) → length (c .args .t .bytes) ≡ mostBytes
 all-bytes c = simp length-map at (c .good .0 .1 .1 .0 .1 .0 .1)
 
 array-share-prefix-bytes : tie.Need-array-share-prefix-bytes

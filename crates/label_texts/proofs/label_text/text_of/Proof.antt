@@ -4,7 +4,7 @@ use mathlib.Core.List.{List, [], _++_}
 use borrow.Author.Needs.{needs}
 use lib.ListN.{length, replicate}
 use Rattle.label_texts.specs.declared.label_text.Text.{Text}
-use Rattle.label_texts.specs.LabelText.{labels, mostBytes, textOf}
+use Rattle.label_texts.specs.LabelText.{labelTexts, mostBytes, textOf}
 use Rattle.rule_types.proofs.ListLaws.{getD-map}
 use Rattle.label_texts.proofs.LabelLaws.{no-bytes}
 use Rattle.label_texts.proofs.label_text.text_of.Statement.{statement}
@@ -22,12 +22,12 @@ filled s = record { bytes = s ++ replicate (mostBytes - length s) 0; len = lengt
 
 returns : tie.Need-returns
 unfolding textOf
-returns c = getD-map filled labels (c .before .before .args .code) [] _ (c .before .if1 .taken)
+returns c = getD-map filled labelTexts (c .before .before .args .code) [] _ (c .before .if1 .taken)
 
 returns-2 : tie.Need-returns-2
 unfolding textOf
 returns-2 c =
-    let out : length labels ≤ c .before .args .code = c .if1 .left in
+    let out : length labelTexts ≤ c .before .args .code = c .if1 .left in
     rw (no-bytes (c .before .args .code) out)
 
 pub text-of-spec : {M : Type 1} → statement M

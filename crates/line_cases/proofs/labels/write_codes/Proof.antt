@@ -1,14 +1,15 @@
 -- `line_cases::labels::write_codes` is safe and ends. Assumes nothing.
-use Prim.Native.Nat.{_≤_, _-_}
+use Prim.Native.Nat.{suc, _≤_, _-_}
 use borrow.Author.Needs.{needs}
+use Rattle.recognisers.specs.Number.{labels}
 use Rattle.line_cases.proofs.labels.write_codes.Statement.{statement}
 use Rattle.line_cases.proofs.labels.write_codes.Tie as tie
 
 abbrev Inv-loop : tie.InvT-loop
-Inv-loop code₀ code = code ≤ 39
+Inv-loop code₀ code = code ≤ suc labels
 
 abbrev μ-loop : tie.MeasureT-loop
-μ-loop code₀ code = 39 - code
+μ-loop code₀ code = suc labels - code
 
 loop-holds : tie.Need-loop-holds Inv-loop μ-loop
 loop-holds c = search needs

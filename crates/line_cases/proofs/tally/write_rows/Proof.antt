@@ -1,14 +1,15 @@
 -- The loop's invariant: no row past the last. Assumes nothing.
 use Prim.Native.Nat.{_-_, _≤_}
 use borrow.Author.Needs.{needs}
+use Rattle.recognisers.specs.Number.{recognisers}
 use Rattle.line_cases.proofs.tally.write_rows.Statement.{statement}
 use Rattle.line_cases.proofs.tally.write_rows.Tie as tie
 
 abbrev Inv-loop : tie.InvT-loop
-Inv-loop b tally k₀ k = k ≤ 18
+Inv-loop b tally k₀ k = k ≤ recognisers
 
 abbrev μ-loop : tie.MeasureT-loop
-μ-loop b tally k₀ k = 18 - k
+μ-loop b tally k₀ k = recognisers - k
 
 loop-holds : tie.Need-loop-holds Inv-loop μ-loop
 loop-holds c = search needs

@@ -6,6 +6,7 @@ use borrow.Author.Needs.{needs}
 use borrow.Author.Tests.{eq-eqb, ne-eqb, le-leb}
 use lib.ListN.{length}
 use Rattle.measures.proofs.Overlay.{overlay-none}
+use Rattle.label_lines.specs.Output.{longestCount}
 use Rattle.label_lines.proofs.OutputLaws.{count-most}
 use Rattle.tally_lines.proofs.output.write_cell.Statement.{statement}
 use Rattle.tally_lines.proofs.output.write_cell.Tie as tie
@@ -25,8 +26,8 @@ returns-2 : tie.Need-returns-2
 returns-2 c =
     let start = c .before .before .before .before .before .before in
     let args = start .args in
-    let room : 58 ≤ length (args .out .now) - args .at = omega (arith, start .pre) in
-    let did = rw (le-leb 58 (length (args .out .now) - args .at) room) at (c .before .before .print-count .ensures) in
+    let room : longestCount ≤ length (args .out .now) - args .at = omega (arith, start .pre) in
+    let did = rw (le-leb longestCount (length (args .out .now) - args .at) room) at (c .before .before .print-count .ensures) in
     rw (ne-eqb _ _ (c .before .before .before .before .if1 .left)) (omega (arith, did .0, count-most (args .k) (args .c) (args .count)), did .0, did .1)
 
 pub write-cell-spec : {M : Type 1} → statement M

@@ -6,6 +6,8 @@ use borrow.Author.Needs.{needs}
 use lib.ListN.{length, getD, take, length-map}
 use lib.Seq.{take-all}
 use Rattle.measures.proofs.Overlay.{overlay-none}
+use Rattle.recognisers.specs.Number.{labels}
+use Rattle.label_lines.specs.Output.{longestCount}
 use Rattle.label_lines.proofs.OutputLaws.{Written, written-on}
 use Rattle.tally_lines.specs.Output.{cellLine, cellLines}
 use Rattle.tally_lines.proofs.OutputLaws.{cell-most, cells-next}
@@ -13,10 +15,10 @@ use Rattle.tally_lines.proofs.output.write_cells.Statement.{statement}
 use Rattle.tally_lines.proofs.output.write_cells.Tie as tie
 
 abbrev Inv-loop : tie.InvT-loop
-Inv-loop k out₀ at counts c₀ place₀ out c place = (c ≤ 38) × (length out ≡ length out₀) × (place ≤ at + 58 * c) × Written out₀ at (cellLines k 0 (take c counts)) out place
+Inv-loop k out₀ at counts c₀ place₀ out c place = (c ≤ labels) × (length out ≡ length out₀) × (place ≤ at + longestCount * c) × Written out₀ at (cellLines k 0 (take c counts)) out place
 
 abbrev μ-loop : tie.MeasureT-loop
-μ-loop k out₀ at counts c₀ place₀ out c place = 38 - c
+μ-loop k out₀ at counts c₀ place₀ out c place = labels - c
 
 loop-holds : tie.Need-loop-holds Inv-loop μ-loop
 unfolding cellLines
@@ -52,7 +54,7 @@ loop-again c =
     let start = at-loop .before .before .before in
     let args = start .args in
     let counts = args .row .counts in
-    let all : length counts ≡ 38 = simp length-map at (start .good .1 .0 .1 .1 .0 .1 .0 .1) in
+    let all : length counts ≡ labels = simp length-map at (start .good .1 .0 .1 .1 .0 .1 .0 .1) in
     let line = cellLine (args .k) (loop .c) (getD counts (loop .c) 0) in
     let most = cell-most (args .k) (loop .c) (getD counts (loop .c) 0) in
     let did = call .write-cell .ensures in
@@ -67,7 +69,7 @@ returns c =
     let at-loop = c .before in
     let start = at-loop .before .before .before in
     let counts = start .args .row .counts in
-    let all : length counts ≡ 38 = simp length-map at (start .good .1 .0 .1 .1 .0 .1 .0 .1) in
+    let all : length counts ≡ labels = simp length-map at (start .good .1 .0 .1 .1 .0 .1 .0 .1) in
     let inv = at-loop .loop .inv in
     let done = rw (take-all (at-loop .loop .c) counts (omega (arith, all))) at (inv .3) in
     (omega (arith, inv .2), done .0, done .1)

@@ -8,6 +8,7 @@ use lib.ListN.{length, getD, take}
 use lib.Seq.{take-all}
 use Rattle.measures.proofs.Overlay.{overlay-none}
 use Rattle.tallies.specs.Tally.{rowOfCounts}
+use Rattle.recognisers.specs.Number.{recognisers}
 use Rattle.label_lines.proofs.OutputLaws.{Written, written-on}
 use Rattle.tally_lines.specs.Output.{cellLines, tallyLines, rowRoom}
 use Rattle.tally_lines.proofs.OutputLaws.{rows-next}
@@ -15,10 +16,10 @@ use Rattle.tally_lines.proofs.output.write_tally.Statement.{statement}
 use Rattle.tally_lines.proofs.output.write_tally.Tie as tie
 
 abbrev Inv-loop : tie.InvT-loop
-Inv-loop out₀ tally k₀ place₀ out k place = (k ≤ 18) × (length out ≡ length out₀) × (place ≤ rowRoom * k) × Written out₀ 0 (tallyLines 0 (take k tally)) out place
+Inv-loop out₀ tally k₀ place₀ out k place = (k ≤ recognisers) × (length out ≡ length out₀) × (place ≤ rowRoom * k) × Written out₀ 0 (tallyLines 0 (take k tally)) out place
 
 abbrev μ-loop : tie.MeasureT-loop
-μ-loop out₀ tally k₀ place₀ out k place = 18 - k
+μ-loop out₀ tally k₀ place₀ out k place = recognisers - k
 
 loop-holds : tie.Need-loop-holds Inv-loop μ-loop
 unfolding tallyLines
@@ -48,7 +49,7 @@ loop-again c =
     let start = at-loop .before .before in
     let args = start .args in
     let tally = args .t1 in
-    let all : length tally ≡ 18 = start .good .0 .1 .0 .1 in
+    let all : length tally ≡ recognisers = start .good .0 .1 .0 .1 in
     let lines = cellLines (loop .k) 0 (getD tally (loop .k) (rowOfCounts []) .counts) in
     let did = call .write-cells .ensures in
     let on = written-on (args .out .now) 0 (tallyLines 0 (take (loop .k) tally)) _ _ lines _ _ (omega (arith, did .0, did .1, start .pre, inv .2)) (inv .3) (did .1, did .2) in
@@ -62,7 +63,7 @@ returns c =
     let at-loop = c .before in
     let start = at-loop .before .before in
     let tally = start .args .t1 in
-    let all : length tally ≡ 18 = start .good .0 .1 .0 .1 in
+    let all : length tally ≡ recognisers = start .good .0 .1 .0 .1 in
     let inv = at-loop .loop .inv in
     let done = rw (take-all (at-loop .loop .k) tally (omega (arith, all))) at (inv .3) in
     (omega (arith, inv .2), omega (arith, done .0), done .1)

@@ -2,61 +2,27 @@
 use Prim.Native.Nat.{_*_}
 use mathlib.Core.Path.{refl, sym, _∙_}
 use native.Mathlib.Omega.{arith}
-use lib.ListN.{length-set}
+use borrow.Author.Needs.{needs}
 use Rattle.measures.specs.Bar.{pricesOf}
 use Rattle.measures.proofs.Overlay.{overlay-none}
-use Rattle.tally_lines.proofs.PriceLaws.{put-bar}
-use borrow.Author.Needs.{needs}
+use Rattle.measures.proofs.PriceLaws.{put-room}
 use Rattle.tally_lines.proofs.reading.end_line.Statement.{statement}
 use Rattle.tally_lines.proofs.reading.end_line.Tie as tie
 
 begin-requires : tie.Need-begin-requires
 begin-requires c κs = search needs
 
-read-requires : tie.Need-read-requires
-read-requires c κs = search needs
+read-partial-requires : tie.Need-read-partial-requires
+read-partial-requires c κs = search needs
 
 enum-known-bar : tie.Need-enum-known-bar
 enum-known-bar c = search needs
 
-mul-at : tie.Need-mul-at
-mul-at c = search needs
+put-bar-requires : tie.Need-put-bar-requires
+put-bar-requires c κs = search needs
 
-mul-prices : tie.Need-mul-prices
-mul-prices c = search needs
-
-slice-write-prices : tie.Need-slice-write-prices
-slice-write-prices c = search needs
-
-add-prices : tie.Need-add-prices
-add-prices c = search needs
-
-mul-prices-2 : tie.Need-mul-prices-2
-mul-prices-2 c = search needs
-
-slice-write-prices-2 : tie.Need-slice-write-prices-2
-slice-write-prices-2 c = simp length-set (omega arith)
-
-add-prices-2 : tie.Need-add-prices-2
-add-prices-2 c = search needs
-
-mul-prices-3 : tie.Need-mul-prices-3
-mul-prices-3 c = search needs
-
-slice-write-prices-3 : tie.Need-slice-write-prices-3
-slice-write-prices-3 c = simp length-set (omega arith)
-
-add-prices-3 : tie.Need-add-prices-3
-add-prices-3 c = search needs
-
-mul-prices-4 : tie.Need-mul-prices-4
-mul-prices-4 c = search needs
-
-slice-write-prices-4 : tie.Need-slice-write-prices-4
-slice-write-prices-4 c = simp length-set (omega arith)
-
-add-t11 : tie.Need-add-t11
-add-t11 c = search needs
+add-t13 : tie.Need-add-t13
+add-t13 c = search needs
 
 enum-told : tie.Need-enum-told
 enum-told c = search needs
@@ -69,28 +35,28 @@ same-length c = search needs
 
 returns : tie.Need-returns
 returns c =
-    let reading = c .before .before .before in
+    let put = c .before .before in
+    let told = put .before .before .before in
+    let reading = told .before .before in
     let start = reading .before .before .before in
     let args = start .args in
-    let says = sym (reading .read .ensures) ∙ c .before .bar .given .1 in
-    rw says (reading .before .begin .ensures, refl, refl, refl, put-bar (args .prices .now) (4 * args .n) (c .before .bar .given .0 .0) (omega (arith, start .pre)))
+    let says = sym (reading .read-partial .ensures .0) ∙ told .bar .given .1 in
+    rw says (reading .before .begin .ensures, refl, refl, refl, put .put-bar .ensures ∙ put-room (args .prices .now) (args .n) (told .bar .given .0 .0) (start .pre))
 
 returns-2 : tie.Need-returns-2
 unfolding pricesOf
 returns-2 c =
     let reading = c .before .before in
-    let start = reading .before .before .before in
-    let args = start .args in
-    let says = sym (reading .read .ensures) ∙ c .enum-told .given .1 in
+    let args = reading .before .before .before .args in
+    let says = sym (reading .read-partial .ensures .0) ∙ c .enum-told .given .1 in
     rw says (reading .before .begin .ensures, refl, omega arith, refl, sym (overlay-none (args .prices .now) (4 * args .n)))
 
 returns-3 : tie.Need-returns-3
 unfolding pricesOf
 returns-3 c =
     let reading = c .before .before .before in
-    let start = reading .before .before .before in
-    let args = start .args in
-    let says = sym (reading .read .ensures) ∙ c .before .place .given .1 in
+    let args = reading .before .before .before .args in
+    let says = sym (reading .read-partial .ensures .0) ∙ c .before .place .given .1 in
     rw says (reading .before .begin .ensures, refl, omega arith, refl, sym (overlay-none (args .prices .now) (4 * args .n)))
 
 pub end-line-spec : {M : Type 1} → statement M
@@ -98,21 +64,10 @@ end-line-spec =
     tie.close
     (tie.spec
     begin-requires
-    read-requires
+    read-partial-requires
     enum-known-bar
-    mul-at
-    mul-prices
-    slice-write-prices
-    add-prices
-    mul-prices-2
-    slice-write-prices-2
-    add-prices-2
-    mul-prices-3
-    slice-write-prices-3
-    add-prices-3
-    mul-prices-4
-    slice-write-prices-4
-    add-t11
+    put-bar-requires
+    add-t13
     enum-told
     enum-known-place
     same-length

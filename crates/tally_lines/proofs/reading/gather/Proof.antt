@@ -14,7 +14,8 @@ use Rattle.text.specs.Lines.{content, keptLine, partialOf}
 use Rattle.text.proofs.LineLaws.{content-partial}
 use Rattle.text.proofs.PartLaws.{to-end}
 use Rattle.tally_lines.specs.declared.reading.Gathered.{Gathered}
-use Rattle.tally_lines.specs.Session.{goesOn, readFrom}
+use Rattle.label_lines.specs.Output.{goesOn}
+use Rattle.tally_lines.specs.Session.{readFrom}
 use Rattle.tally_lines.proofs.GuardLaws.{goes-on, used-some}
 use Rattle.tally_lines.proofs.ReadLaws.{read-kept, read-turn, gathered-is, begun-kept}
 use Rattle.tally_lines.proofs.reading.gather.Statement.{statement}

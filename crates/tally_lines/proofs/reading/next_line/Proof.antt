@@ -9,8 +9,8 @@ use Rattle.measures.proofs.Overlay.{overlay-none}
 use Rattle.text.specs.LineText.{lineOf}
 use Rattle.text.specs.Lines.{content, keptLine}
 use Rattle.text.proofs.LineLaws.{content-partial}
-use Rattle.tally_lines.specs.declared.reading.Stop.the-variants.{Going}
-use Rattle.tally_lines.specs.Session.{Read, readFrom, barsIn, stopIn}
+use Rattle.label_lines.specs.declared.output.Stop.the-variants.{Going}
+use Rattle.tally_lines.specs.Session.{Read, readFrom, lineBars, lineStop}
 use Rattle.tally_lines.proofs.ReadLaws.{read-line, read-rest, bars-few, gathered-is}
 use lib.Seq.{length-take-le}
 use borrow.Author.Needs.{needs}
@@ -48,7 +48,7 @@ returns c =
     let says : content (extended .extend .result) ≡ keptLine (content (args .line) ++ take k chunk) = rw (extended .extend .ensures) (content-partial _) in
     let did = rw says at (call .end-line .ensures) in
     let l = lineOf (keptLine (content (args .line) ++ take k chunk)) in
-    let r : Read = record { bars = barsIn l; line = []; stop = stopIn l } in
+    let r : Read = record { bars = lineBars l; line = []; stop = lineStop l } in
     let read : readFrom [] (content (args .line)) (take (call .end-line .result .used) chunk) ≡ r = rw (did .1) (read-line (content (args .line)) chunk k (found .piece-end .ensures .0) inside) in
     let few = bars-few l in
     ((omega (arith, did .1), omega (arith, did .1, inside), omega (arith, did .2, few)), (rw read (gathered-is (call .end-line .result) (call .end-line .result .used) (args .n) r (did .0) refl (did .2) (did .3)), rw read (did .4)))

@@ -1,6 +1,6 @@
 -- The loop's invariant: the session is what the bytes passed leave. Where the loop ends, those of the rest leave nothing else.
 -- Assumes nothing.
-use Prim.Native.Nat.{_+_, _-_, _≤_}
+use Prim.Native.Nat.{suc, _+_, _-_, _≤_}
 use mathlib.Core.List.{[], _++_, append-nil}
 use mathlib.Core.Path.{_≡_, ap, _∙_}
 use native.Mathlib.Omega.{arith}
@@ -8,19 +8,21 @@ use borrow.Author.Needs.{needs}
 use borrow.Author.Tests.{ltb-true}
 use lib.ListN.{length, take, drop, length-map, length-take, length-drop}
 use lib.Seq.{take-all, take-add}
+use Rattle.recognisers.specs.Number.{longestLine}
 use Rattle.text.specs.Lines.{content, keptLine, partialOf}
 use Rattle.text.proofs.LineLaws.{content-partial}
 use Rattle.text.proofs.PartLaws.{to-end}
 use Rattle.text.proofs.RunLaws.{both}
 use Rattle.tally_lines.specs.declared.session.Session.{Session}
-use Rattle.tally_lines.specs.Session.{State, goesOn, stateOf, sessionOf, takenOf}
+use Rattle.label_lines.specs.Output.{goesOn}
+use Rattle.tally_lines.specs.Session.{State, stateOf, sessionOf, stateAfter}
 use Rattle.tally_lines.proofs.SessionLaws.{taken-append, state-session, session-stays, rest-left}
 use Rattle.tally_lines.proofs.session.absorb.Statement.{statement}
 use Rattle.tally_lines.proofs.session.absorb.Tie as tie
 
 abbrev Inv-loop : tie.InvT-loop
 Inv-loop chunk session₀ used₀ going₀ session used going =
-    (used ≤ length chunk) × (session ≡ sessionOf (takenOf (stateOf session₀) (take used chunk))) × (going ≡ goesOn (session .stop))
+    (used ≤ length chunk) × (session ≡ sessionOf (stateAfter (stateOf session₀) (take used chunk))) × (going ≡ goesOn (session .stop))
 
 abbrev μ-loop : tie.MeasureT-loop
 μ-loop chunk session₀ used₀ going₀ session used going = length chunk - used
@@ -93,7 +95,7 @@ loop-again c =
     let s : State = record { line = content (at-loop .before .before .before .before .extend .result); box = args .st .held; tally = args .st .tally; stop = args .st .stop } in
     let u = loop .used in
     let n = turn .result .used in
-    let here : stateOf (loop .session) ≡ takenOf s (take u chunk) = rw (inv .1) (state-session (takenOf s (take u chunk))) in
+    let here : stateOf (loop .session) ≡ stateAfter s (take u chunk) = rw (inv .1) (state-session (stateAfter s (take u chunk))) in
     let did = rw (to-end chunk u, here) at (turn .ensures) in
     (omega (arith, inv .0, rw length-drop at (did .1)), rw (take-add u n chunk, taken-append s (take u chunk) (take n (drop u chunk))) (did .2), c .goes-on2 .ensures)
 
@@ -107,12 +109,12 @@ returns c =
     let args = start .args in
     let chunk = args .chunk .now in
     let s = stateOf (args .st) in
-    let all-bytes : length (args .st .line .bytes) ≡ 81 = simp length-map at (start .good .0 .1 .1 .0 .1 .1 .0 .1 .0 .1) in
-    let short : length (s .line) ≤ 81 = rw length-take (omega arith) in
+    let all-bytes : length (args .st .line .bytes) ≡ suc longestLine = simp length-map at (start .good .0 .1 .1 .0 .1 .1 .0 .1 .0 .1) in
+    let short : length (s .line) ≤ suc longestLine = rw length-take (omega arith) in
     let took : extended .result ≡ partialOf (keptLine (s .line ++ [])) = extended .ensures in
-    let kept : content (extended .result) ≡ s .line = rw (took, content-partial (keptLine (s .line ++ [])), append-nil) (take-all 81 (s .line) short) in
-    let is : loop .session ≡ sessionOf (takenOf s (take (loop .used) chunk)) = rw kept at (inv .1) in
-    let stop : loop .session .stop ≡ takenOf s (take (loop .used) chunk) .stop = ap (λ (st : Session). st .stop) is in
+    let kept : content (extended .result) ≡ s .line = rw (took, content-partial (keptLine (s .line ++ [])), append-nil) (take-all (suc longestLine) (s .line) short) in
+    let is : loop .session ≡ sessionOf (stateAfter s (take (loop .used) chunk)) = rw kept at (inv .1) in
+    let stop : loop .session .stop ≡ stateAfter s (take (loop .used) chunk) .stop = ap (λ (st : Session). st .stop) is in
     is ∙ ap sessionOf (rest-left s chunk (loop .used) (loop .going) (inv .0) (rw stop at (inv .2)) (c .loop-test .left))
 
 pub absorb-spec : {M : Type 1} → statement M

@@ -3,14 +3,15 @@ use native.Mathlib.Omega.{arith}
 use borrow.Author.Needs.{needs}
 use lib.ListN.{length-take}
 use Rattle.recognisers.specs.Refusal.{firstTrue}
+use Rattle.text.specs.declared.line_text.Line.the-variants.{BadShape}
 use Rattle.text.specs.LineText.{comma, lineVerdict, saidOf, lineOf, fieldsLine}
-use Rattle.text.proofs.LineLaws.{pieces-whole, pieces-cut, too-long, short-enough}
+use Rattle.text.proofs.LineLaws.{pieces-whole, pieces-cut, too-long, short-enough, answered}
 use Rattle.text.proofs.line_text.read_line.Statement.{statement}
 use Rattle.text.proofs.line_text.read_line.Tie as tie
 
 returns : tie.Need-returns
 unfolding lineOf
-returns c = rw (too-long _ _ (c .if1 .taken))
+returns c = answered (c .before .before .args .s .now) BadShape (rw (too-long _ _ (c .if1 .taken)))
 
 piece-end-requires : tie.Need-piece-end-requires
 piece-end-requires c κs = search needs
@@ -39,15 +40,17 @@ returns-2 c =
     let comma-found = c .before .before .before in
     let piece = comma-found .before in
     let s = piece .before .before .before .args .s .now in
-    rw (short-enough _ _ (piece .before .if1 .left), pieces-cut comma s (piece .piece-end .result) (piece .piece-end .ensures .0) (comma-found .if2 .taken))
-    (c .after-open .ensures)
+    answered s (c .after-open .result)
+    (rw (short-enough _ _ (piece .before .if1 .left), pieces-cut comma s (piece .piece-end .result) (piece .piece-end .ensures .0) (comma-found .if2 .taken))
+    (c .after-open .ensures))
 
 returns-3 : tie.Need-returns-3
 unfolding lineOf saidOf lineVerdict firstTrue
 returns-3 c =
     let piece = c .before in
     let s = piece .before .before .before .args .s .now in
-    rw (short-enough _ _ (piece .before .if1 .left), pieces-whole comma s (piece .piece-end .result) (piece .piece-end .ensures .0) (c .if2 .left) (piece .piece-end .ensures .1))
+    answered s BadShape
+    (rw (short-enough _ _ (piece .before .if1 .left), pieces-whole comma s (piece .piece-end .result) (piece .piece-end .ensures .0) (c .if2 .left) (piece .piece-end .ensures .1)))
 
 pub read-line-spec : {M : Type 1} → statement M
 read-line-spec =

@@ -6,6 +6,7 @@ use native.Mathlib.Nat.{add-zero}
 use native.Mathlib.Omega.{arith}
 use borrow.Author.Needs.{needs}
 use lib.ListN.{length, take, replicate, length-map, length-set, length-take, length-append}
+use Rattle.recognisers.specs.Number.{longestLine}
 use Rattle.measures.proofs.RunLaws.{take-least}
 use Rattle.text.specs.Lines.{content}
 use Rattle.text.proofs.LineLaws.{partial-is, partial-fields}
@@ -14,17 +15,17 @@ use Rattle.text.proofs.lines.append.Statement.{statement}
 use Rattle.text.proofs.lines.append.Tie as tie
 
 abbrev Inv-loop : tie.InvT-loop
-Inv-loop s at n bytes₀ i₀ bytes i = (i ≤ n) × (length bytes ≡ 81) × (bytes ≡ (take at bytes₀ ++ take i s) ++ replicate (81 - (at + i)) 0)
+Inv-loop s at n bytes₀ i₀ bytes i = (i ≤ n) × (length bytes ≡ suc longestLine) × (bytes ≡ (take at bytes₀ ++ take i s) ++ replicate (suc longestLine - (at + i)) 0)
 
 abbrev μ-loop : tie.MeasureT-loop
 μ-loop s at n bytes₀ i₀ bytes i = n - i
 
--- the array has its 81 bytes: what owning the parameter tells
-all-bytes : (c : tie.Start Inv-loop μ-loop) → length (c .args .line .bytes) ≡ 81
+-- the array has all its bytes: what owning the parameter tells
+all-bytes : (c : tie.Start Inv-loop μ-loop) → length (c .args .line .bytes) ≡ suc longestLine
 all-bytes c = simp length-map at (c .good .0 .1 .1 .0 .1 .0 .1)
 
 -- and all that count are there
-size : (c : tie.Start Inv-loop μ-loop) → (length (content (c .args .line)) ≡ c .args .line .len) × (c .args .line .len ≤ 81)
+size : (c : tie.Start Inv-loop μ-loop) → (length (content (c .args .line)) ≡ c .args .line .len) × (c .args .line .len ≤ suc longestLine)
 size c =
     let len = partial-fields (c .args .line) _ (c .pre) .1 in
     (sym len, omega (arith, len, length-take (c .args .line .len) (c .args .line .bytes), all-bytes c))
@@ -40,7 +41,7 @@ loop-holds c =
     let start = c .before .before .before in
     let line = start .args .line in
     let zeros = rw (size start .0) at (partial-fields line _ (start .pre) .0) in
-    let none : line .bytes ≡ (content line ++ []) ++ replicate (81 - (line .len + 0)) 0 = rw (append-nil, add-zero (line .len)) zeros in
+    let none : line .bytes ≡ (content line ++ []) ++ replicate (suc longestLine - (line .len + 0)) 0 = rw (append-nil, add-zero (line .len)) zeros in
     (search needs, all-bytes start, none)
 
 shared-slice-read-bytes : tie.Need-shared-slice-read-bytes Inv-loop μ-loop
@@ -64,8 +65,8 @@ loop-again c =
     let start = l .before .before .before .before in
     let line = start .args .line in
     let i = l .loop .i in
-    let gap : 81 - (line .len + i) ≡ suc (81 - (line .len + (i + 1))) = omega (arith, size start .1) in
-    let more = copy-more (content line) (start .args .s .now) i (line .len + i) (81 - (line .len + (i + 1))) 0 (omega (arith, size start .0)) (omega arith) in
+    let gap : suc longestLine - (line .len + i) ≡ suc (suc longestLine - (line .len + (i + 1))) = omega (arith, size start .1) in
+    let more = copy-more (content line) (start .args .s .now) i (line .len + i) (suc longestLine - (line .len + (i + 1))) 0 (omega (arith, size start .0)) (omega arith) in
     (search needs, simp length-set (l .loop .inv .1), rw (l .loop .inv .2, gap) more)
 
 add-t7 : tie.Need-add-t7 Inv-loop μ-loop
@@ -79,9 +80,9 @@ returns c =
     let line = start .args .line in
     let s = start .args .s .now in
     let all : l .loop .i ≡ n = omega arith in
-    let part : n ≡ min (81 - length (content line)) (length s) = omega (arith, size start .0) in
-    let copied : take (81 - length (content line)) s ≡ take n s = rw part (sym (take-least (81 - length (content line)) (length s) s refl)) in
-    let kept : take 81 (content line ++ s) ≡ content line ++ take n s = rw copied at (take-beyond 81 (content line) s (omega (arith, size start))) in
+    let part : n ≡ min (suc longestLine - length (content line)) (length s) = omega (arith, size start .0) in
+    let copied : take (suc longestLine - length (content line)) s ≡ take n s = rw part (sym (take-least (suc longestLine - length (content line)) (length s) s refl)) in
+    let kept : take (suc longestLine) (content line ++ s) ≡ content line ++ take n s = rw copied at (take-beyond (suc longestLine) (content line) s (omega (arith, size start))) in
     let len : length (content line ++ take n s) ≡ line .len + n = rw (length-append, length-take n s) (omega (arith, size start .0)) in
     rw kept (partial-is (content line ++ take n s) (l .loop .bytes) (line .len + n) len (rw all at (l .loop .inv .2)))
 

@@ -1,10 +1,11 @@
 -- The bytes that count behind none, and those of s behind them. Assumes nothing.
-use Prim.Native.Nat.{ℕ}
+use Prim.Native.Nat.{suc, ℕ}
 use mathlib.Core.List.{List, []}
 use mathlib.Core.Path.{_≡_}
 use native.Mathlib.Omega.{arith}
 use borrow.Author.Needs.{needs}
 use lib.ListN.{length, take, length-map, length-take}
+use Rattle.recognisers.specs.Number.{longestLine}
 use Rattle.measures.proofs.RunLaws.{take-least}
 use Rattle.text.specs.declared.lines.Partial.{Partial}
 use Rattle.text.specs.Lines.{content, keptLine, partialOf}
@@ -12,8 +13,8 @@ use Rattle.text.proofs.LineLaws.{kept-kept, content-partial}
 use Rattle.text.proofs.lines.extend.Statement.{statement}
 use Rattle.text.proofs.lines.extend.Tie as tie
 
--- the array has its 81 bytes: what owning the parameter tells
-all-bytes : (c : tie.Start) → length (c .args .line .bytes) ≡ 81
+-- the array has all its bytes: what owning the parameter tells
+all-bytes : (c : tie.Start) → length (c .args .line .bytes) ≡ suc longestLine
 all-bytes c = simp length-map at (c .good .0 .1 .1 .0 .1 .0 .1)
 
 -- a line that is that of some bytes is that of its own
@@ -44,7 +45,7 @@ returns c =
     let begun = copied .before .before in
     let start = begun .before .before .before .before in
     let line = start .args .line in
-    let front : take (begun .before .least .result) (line .bytes) ≡ content line = rw (begun .before .least .ensures) (take-least (line .len) 81 (line .bytes) (all-bytes start)) in
+    let front : take (begun .before .least .result) (line .bytes) ≡ content line = rw (begun .before .least .ensures) (take-least (line .len) (suc longestLine) (line .bytes) (all-bytes start)) in
     rw (c .append2 .ensures, copied .append .ensures, begun .begin .ensures, content-partial [], front, content-partial (keptLine (content line)), kept-kept (content line) (start .args .s .now))
 
 pub extend-spec : {M : Type 1} → statement M

@@ -5,6 +5,7 @@ use native.Mathlib.Omega.{arith}
 use borrow.Author.Tests.{ne-eqb}
 use lib.Dec.{eqb}
 use lib.ListN.{length, length-map, length-take}
+use Rattle.recognisers.specs.Number.{longestLine}
 use Rattle.text.proofs.lines.is_empty.Statement.{statement}
 use Rattle.text.proofs.lines.is_empty.Tie as tie
 
@@ -15,8 +16,8 @@ none-of (suc n) k h = rw (ne-eqb (suc n) 0 (λ e. omega arith), ne-eqb (min (suc
 returns : tie.Need-returns
 returns c =
     let line = c .before .args .line in
-    let all : length (line .bytes) ≡ 81 = simp length-map at (c .before .good .0 .1 .1 .0 .1 .0 .1) in
-    none-of (line .len) 81 (omega arith) ∙ rw (length-take, all)
+    let all : length (line .bytes) ≡ suc longestLine = simp length-map at (c .before .good .0 .1 .1 .0 .1 .0 .1) in
+    none-of (line .len) (suc longestLine) (omega arith) ∙ rw (length-take, all)
 
 pub is-empty-spec : {M : Type 1} → statement M
 is-empty-spec = tie.close (tie.spec returns)

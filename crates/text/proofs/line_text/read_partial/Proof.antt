@@ -1,15 +1,19 @@
--- The first 81 bytes at most, which are all that there are. Assumes nothing.
+-- The bytes that are kept, which are all that there are. Assumes nothing.
+use Prim.Native.Nat.{suc}
 use mathlib.Core.Path.{_≡_, ap, _∙_}
 use native.Mathlib.Omega.{arith}
 use borrow.Author.Needs.{needs}
 use lib.ListN.{length, length-map, length-take}
-use Rattle.text.specs.LineText.{lineOf}
 use Rattle.measures.proofs.RunLaws.{take-least}
-use Rattle.text.proofs.lines.read.Statement.{statement}
-use Rattle.text.proofs.lines.read.Tie as tie
+use Rattle.recognisers.specs.Number.{longestLine}
+use Rattle.text.specs.Lines.{content}
+use Rattle.text.specs.LineText.{lineOf}
+use Rattle.text.proofs.LineLaws.{answered}
+use Rattle.text.proofs.line_text.read_partial.Statement.{statement}
+use Rattle.text.proofs.line_text.read_partial.Tie as tie
 
--- the array has its 81 bytes: what owning the parameter tells
-all-bytes : (c : tie.Start) → length (c .args .line .bytes) ≡ 81
+-- the array has all its bytes: what owning the parameter tells
+all-bytes : (c : tie.Start) → length (c .args .line .bytes) ≡ suc longestLine
 all-bytes c = simp length-map at (c .good .0 .1 .1 .0 .1 .0 .1)
 
 least-requires : tie.Need-least-requires
@@ -28,10 +32,10 @@ returns : tie.Need-returns
 returns c =
     let n = c .before .before in
     let p = n .before .before .args .line in
-    c .read-line .ensures ∙ rw (n .least .ensures) (ap lineOf (take-least (p .len) 81 (p .bytes) (all-bytes (n .before .before))))
+    answered (content p) (c .read-line .result) (c .read-line .ensures .0 ∙ rw (n .least .ensures) (ap lineOf (take-least (p .len) (suc longestLine) (p .bytes) (all-bytes (n .before .before)))))
 
-pub read-spec : {M : Type 1} → statement M
-read-spec =
+pub read-partial-spec : {M : Type 1} → statement M
+read-partial-spec =
     tie.close
     (tie.spec
     least-requires
