@@ -9,7 +9,7 @@ use Rattle.label_lines.proofs.session.begin.Tie as tie
 
 returns : tie.Need-returns
 returns c =
-    let box : c .before .before .make .result .after ≡ freshBox standardSet = rw (c .before .before .make .ensures, c .before .before .before .standard .ensures) (made-valid standardSet standard-valid) in
+    let box : c .before .before .make .result .after ≡ freshBox standardSet = rw (c .before .before .make .ensures .0, c .before .before .before .standard .ensures) (made-valid standardSet standard-valid) in
     rw (c .begin .ensures, box)
 
 pub begin-spec : {M : Type 1} → statement M

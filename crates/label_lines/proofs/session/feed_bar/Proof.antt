@@ -63,7 +63,7 @@ returns-2 c =
     let args = fed .before .before .before .before .before .args in
     let law = fed-accepted (args .held) (args .bar) (fed .feed .result) (fed .feed .ensures .0) (told .enum-told .given .1) in
     let wrote = rows .write-rows .ensures in
-    rw (law, ← fed .feed .ensures .1) (refl, refl, wrote .0, wrote .1, wrote .2)
+    rw (law, ← fed .feed .ensures .1 .0) (refl, refl, wrote .0, wrote .1, wrote .2)
 
 pub feed-bar-spec : {M : Type 1} → statement M
 feed-bar-spec =

@@ -10,7 +10,7 @@ use Rattle.tally_lines.proofs.session.begin.Tie as tie
 returns : tie.Need-returns
 returns c =
     let made-box = c .before .before .before in
-    let box : made-box .make .result .after ≡ freshBox standardSet = rw (made-box .make .ensures, made-box .before .standard .ensures) (made-valid standardSet standard-valid) in
+    let box : made-box .make .result .after ≡ freshBox standardSet = rw (made-box .make .ensures .0, made-box .before .standard .ensures) (made-valid standardSet standard-valid) in
     rw (c .before .begin .ensures, box, c .fresh .ensures)
 
 pub begin-spec : {M : Type 1} → statement M

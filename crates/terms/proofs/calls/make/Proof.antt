@@ -33,7 +33,7 @@ returns c =
     let chosen = made .before in
     let call = chosen .before in
     let args = call .before .args in
-    let box = ap (λ (o : Outcome). o .after) (made .make .ensures) in
+    let box = ap (λ (o : Outcome). o .after) (made .make .ensures .0) in
     let told = call .make-verdict .ensures in (
       rw (c .fresh .ensures, day .hours-by .ensures, length .minutes-by .ensures, box, chosen .thresholds-by .ensures) (made-is (args .t) (args .h) (args .m) _ (sym told)),
       ap verdictNumber told,
