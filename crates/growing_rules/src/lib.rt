@@ -333,7 +333,8 @@ fn try_window(ends: Ends, found: Growing, w: &[f64], n: usize, m: Middle) -> Gro
     Growing { methods, tower }
 }
 
-// The search, for both recognisers at once, from the first window's middle: each bar enters the extremes once.
+// The search, for both recognisers at once, from the first window's middle: each bar enters the extremes once. Whoever calls it has asked that
+// middle whether the close is beyond it, and most are not: the question stands with the callers, who pay no call for it.
 fn search(ends: Ends, w: &[f64], first: Middle) -> Growing
     requires { ⌜ first ≡ middleAt (barsOf (now w)) 5 ⌝ }
     ensures { λ r. ⌜ r ≡ searchedOf ends (barsOf (now (w .entry))) 10 ⌝ }
