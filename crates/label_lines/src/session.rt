@@ -91,7 +91,14 @@ fn feed_bar(held: BarBox, bar: Bar, out: &mut [u8], at: usize) -> Stepped
     // a refused feed leaves the box as it was, so that no second one is kept for it
     let after = fed.after;
     match verdict {
-        Verdict::Denied(why) => refuse(after, Stop::By(why), out, at),
+        Verdict::Denied(why) => {
+            let end = output::write_refusal(ordinal, Stop::By(why), out, at);
+            Stepped {
+                held: after,
+                stops: true,
+                at: end,
+            }
+        }
         Verdict::Accepted => {
             let end = output::write_rows(ordinal, &sheet, out, at);
             Stepped {

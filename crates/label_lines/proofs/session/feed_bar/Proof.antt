@@ -1,5 +1,6 @@
 -- A refused feed leaves the box, and the line that is printed is its; an accepted one leaves the box after it. Assumes nothing.
 use mathlib.Core.Path.{refl}
+use native.Mathlib.Omega.{arith}
 use borrow.Author.Needs.{needs}
 use Rattle.measures.specs.Bar.{pricesOf}
 use Rattle.label_lines.proofs.SessionLaws.{fed-refused, fed-left, fed-accepted}
@@ -24,8 +25,8 @@ feed-requires c κs = search needs
 enum-known-verdict : tie.Need-enum-known-verdict
 enum-known-verdict c = search needs
 
-refuse-requires : tie.Need-refuse-requires
-refuse-requires c κs = search needs
+write-refusal-requires : tie.Need-write-refusal-requires
+write-refusal-requires c κs = search needs
 
 enum-told : tie.Need-enum-told
 enum-told c = search needs
@@ -49,7 +50,8 @@ returns c =
     let denied = verdict .verdict .given .1 in
     let law = fed-refused (args .held) (args .bar) (fed .feed .result) (fed .feed .ensures .0) _ denied in
     let left = fed-left (args .held) (args .bar) (fed .feed .result) (fed .feed .ensures .0) _ denied in
-    rw law (rw left at (refused .refuse .ensures))
+    let wrote = refused .write-refusal .ensures in
+    rw law (left, refl, omega (arith, wrote .0), wrote .1, wrote .2)
 
 same-length-2 : tie.Need-same-length-2
 same-length-2 c = search needs
@@ -75,7 +77,7 @@ feed-bar-spec =
     slice-aggregate-feed-2
     feed-requires
     enum-known-verdict
-    refuse-requires
+    write-refusal-requires
     enum-told
     slice-aggregate-write-rows
     write-rows-requires
