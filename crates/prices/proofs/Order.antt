@@ -297,27 +297,6 @@ min-stays-known = stays-known (λ x y. lt y x) falling
 pub both-ways : {A : Type 0} {t : Bool} → t ≡ true → t ≡ false → A
 both-ways {A} {t} h g = absurd (no-two t h g)
 
--- where the larger of two is below z, neither is above it; where the smaller is above z, neither is below it
-pub max-under : (a b z : Float) → lt (maxOf a b) z ≡ true → lt z a ≡ false
-unfolding maxOf
-max-under a b z h = go (isNan a) refl
-  where
-    go : (t : Bool) → isNan a ≡ t → lt z a ≡ false
-    go true e = rw (is-nan a e) (lt-nan z)
-    go false e = lt-asym a z (first lt rising a b z e (known-right (maxOf a b) z h) h)
-
-nan-lt : (x : Float) → lt nan x ≡ false
-unfolding lt
-nan-lt x = refl
-
-pub min-over : (a b z : Float) → lt z (minOf a b) ≡ true → lt a z ≡ false
-unfolding minOf
-min-over a b z h = go (isNan a) refl
-  where
-    go : (t : Bool) → isNan a ≡ t → lt a z ≡ false
-    go true e = rw (is-nan a e) (nan-lt z)
-    go false e = lt-asym z a (first (λ x y. lt y x) falling a b z e (known-left z (minOf a b) h) h)
-
 -- where the first is NaN, the second is the answer whatever it is: there is one NaN
 pub max-by-choice : (a b : Float) → cond (isNan a) b (cond (lt a b) b a) ≡ maxOf a b
 unfolding maxOf
