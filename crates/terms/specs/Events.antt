@@ -134,11 +134,11 @@ abbrev pub openOf : List (ℕ × Bar) → OpenBar
 openOf [] = Nothing
 openOf (x ∷ xs) = Begun (termBar (x ∷ xs))
 
--- the stamps of bars lie in one and the same term
+-- any two of some bars lie in one and the same term, by their stamps (List·Memᴰ: is one of)
 abbrev pub OneTerm : Hours → ℕ → List (ℕ × Bar) → Type 0
 OneTerm h m bars = (x y : ℕ × Bar) → List·Memᴰ x bars → List·Memᴰ y bars → termOf h m (x .0) ≡ termOf h m (y .0)
 
--- for every list of events: each ended term bar and the open one is the bar of its term's bars, which lie in one term
+-- for every list of events: each ended term bar and the open one is the bar of its term's bars, which lie in one term; a close can cut a term in two
 pub record TermBars : Type 0 where
   pub ended : (h : Hours) (m : ℕ) (es : List Event) → endedOf h m nothingYet es ≡ map termBar (endedTerms h m Never [] es)
   pub left : (h : Hours) (m : ℕ) (es : List Event) → carriedOf h m nothingYet es .pending ≡ openOf (openTerm h m Never [] es)

@@ -95,7 +95,7 @@ rowsOfCall l x = take (rowBytes * called l x .rows) (sheetAfter l x)
 abbrev pub joinedRows : Layer → List Call → List ℕ
 joinedRows = joined layerLeft rowsOfCall
 
--- ---- stamps that 10 and 11 let pass: each lies in the hours, and of any two the later is above the earlier, in the same term or in one that comes after
+-- ---- stamps that 10 and 11 let pass: each lies in the hours, and of any two the later is above the earlier, in its term or in one after it
 
 pub record Rising (h : Hours) (m : ℕ) (stamps : List ℕ) : Type 0 where
   pub inside : (i : ℕ) → i < length stamps → inHours h (getD stamps i 0) ≡ true

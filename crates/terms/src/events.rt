@@ -224,7 +224,7 @@ pub struct Filled {
     pub carried: Carried,
 }
 
-// Passes bars from one on until there is no room for another ended term bar or no bar is left; the prices of the ended ones go to the front of a run.
+// Passes bars from one on until no bar is left or there is no room; the prices of the term bars that ended go to the front of a run.
 pub(crate) fn fill(
     h: Hours,
     m: u32,
