@@ -26,13 +26,13 @@ use Rattle.label_lines.specs.declared.output.Stop.the-variants.{Going, B
 -- ---- lines of output
 
 -- how many decimal digits a number has, of which there are at most one more than the first argument
-unfoldable pub placesOf : ℕ → ℕ → ℕ
-placesOf zero n = 1
-placesOf (suc most) n = cond (ltb n 10) 1 (suc (placesOf most (n / 10)))
+unfoldable pub digitCount : ℕ → ℕ → ℕ
+digitCount zero n = 1
+digitCount (suc most) n = cond (ltb n 10) 1 (suc (digitCount most (n / 10)))
 
 -- a number below 2 to the power of 64 in decimal
 unfoldable pub numeral : ℕ → List ℕ
-numeral n = digits 10 (placesOf 19 n) n
+numeral n = digits 10 (digitCount 19 n) n
 
 -- bytes with the one that ends them
 abbrev pub field : List ℕ → ℕ → List ℕ

@@ -19,10 +19,6 @@ by8 (Prices bar) = Prices bar
 by8 BadShape = BadShape
 by8 (BadPrice place) = BadShape
 
--- what an input printed
-abbrev pub outputBy8 : List ℕ → List ℕ
-outputBy8 input = historyPrints [] (map by8 (map lineOf (linesOf input)))
-
 -- the same, or the same up to the refusal of the same line, which has a bad price
 abbrev pub Same : List ℕ → List ℕ → Type 0
 Same now then =
@@ -30,4 +26,4 @@ Same now then =
     ⊎ ((rows : List ℕ) × (ordinal : ℕ) × (place : ℕ) × (now ≡ rows ++ refusalLine ordinal (Price place)) × (then ≡ rows ++ refusalLine ordinal (By refusal.BadShape)))
 
 abbrev pub SameRows : List ℕ → Type 0
-SameRows input = Same (outputOf input) (outputBy8 input)
+SameRows input = Same (outputOf input) (historyPrints [] (map by8 (map lineOf (linesOf input))))

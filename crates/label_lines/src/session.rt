@@ -15,6 +15,7 @@ use crate::output::Stop;
 use bar_box::BarBox;
 use measures::Bar;
 use measures::least;
+use measures::put_bar;
 use recognisers::Refusal;
 use recognisers::Thresholds;
 use recognisers::call::Verdict;
@@ -84,7 +85,8 @@ fn feed_bar(held: BarBox, bar: Bar, out: &mut [u8], at: usize) -> Stepped
     ensures { λ r. ⌜ (r .held ≡ fedStep held bar .after) × (r .stops ≡ fedStep held bar .stops) × (r .at ≤ at + lineRoom) × (r .at ≡ at + length (fedStep held bar .printed)) × (now (out .exit) ≡ overlay (now (out .entry)) at (fedStep held bar .printed)) ⌝ }
 {
     let ordinal = held.count as u64 + 1;
-    let prices = [bar.open, bar.close, bar.high, bar.low];
+    let mut prices = [0.0; 4];
+    put_bar(bar, &mut prices, 0);
     let mut sheet = [0u8; ROW_BYTES];
     let fed = bar_box::feed(held, &prices, &mut sheet);
     let verdict = fed.verdict;

@@ -47,20 +47,28 @@ rows-whole ordinal k (v1 ∷ v2 ∷ codes) = whole-append _ _ (go (eqb v1 0)) (r
 
 -- ---- lines after a history
 alone : (ordinal : ℕ) (stop : Stop) → goesOn stop ≡ false → Refused (refusalLine ordinal stop) (refusalLine ordinal stop)
-alone ordinal stop e = (ordinal, stop, e, refl, [], inl refl, refl)
+alone ordinal stop e = record { ordinal = ordinal; stop = stop; refused = e; prints = refl; rows = []; whole = inl refl; last = refl }
 
 same : (h : List Bar) (lines : List Line) → length h ≤ mostBars → Tabled h lines (tallyPrints h lines) ⊎ Refused (historyPrints h lines) (tallyPrints h lines)
 unfolding linesPrint
-same h [] few = inl ([], refl, rw append-nil few, rw append-nil)
+same h [] few = inl (record { bars = []; accepted = refl; few = rw append-nil few; prints = rw append-nil })
 same h (BadShape ∷ lines) few = inr (alone (length h + 1) (By refusal.BadShape) refl)
 same h (BadPrice place ∷ lines) few = inr (alone (length h + 1) (Price place) refl)
 same h (Prices bar ∷ lines) few = go (ltb (length h) mostBars) refl (λ room. same (h ++ (bar ∷ [])) lines (rw (length-append h (bar ∷ [])) (omega (arith, ltb-true (length h) mostBars room))))
   where
     behind : {tally printed : List ℕ} → Tabled (h ++ (bar ∷ [])) lines tally ⊎ Refused printed tally
         → Tabled h (Prices bar ∷ lines) tally ⊎ Refused (newestLines (h ++ (bar ∷ [])) ++ printed) tally
-    behind (inl (bars, all, few, is)) = inl (bar ∷ bars, rw all, rw append-assoc at few, rw append-assoc at is)
-    behind (inr (ordinal, stop, e, is, rows, whole, last)) =
-        inr (ordinal, stop, e, is, newestLines (h ++ (bar ∷ [])) ++ rows, whole-append _ rows (rows-whole _ 0 _) whole, rw (last, append-assoc))
+    behind (inl t) = inl (record { bars = bar ∷ t .bars; accepted = rw (t .accepted); few = rw append-assoc at (t .few); prints = rw append-assoc at (t .prints) })
+    behind (inr r) =
+        inr (record {
+          ordinal = r .ordinal;
+          stop = r .stop;
+          refused = r .refused;
+          prints = r .prints;
+          rows = newestLines (h ++ (bar ∷ [])) ++ r .rows;
+          whole = whole-append _ (r .rows) (rows-whole _ 0 _) (r .whole);
+          last = rw (r .last, append-assoc);
+        })
 
     go : (t : Bool) → ltb (length h) mostBars ≡ t → let more = h ++ (bar ∷ []) in
         (ltb (length h) mostBars ≡ true → Tabled more lines (tallyPrints more lines) ⊎ Refused (historyPrints more lines) (tallyPrints more lines))

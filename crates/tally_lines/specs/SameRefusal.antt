@@ -18,19 +18,26 @@ use Rattle.label_lines.specs.Output.{goesOn, refusalLine}
 use Rattle.tally_lines.specs.Output.{tallyLines}
 use Rattle.tally_lines.specs.History.{historyTally, outputOf}
 
--- no line is refused, and the table of all bars is printed
-abbrev pub Tabled : List Bar → List Line → List ℕ → Type 0
-Tabled history lines tally =
-    (bars : List Bar) × (lines ≡ map Prices bars) × (length (history ++ bars) ≤ mostBars) × (tally ≡ tallyLines 0 (historyTally (history ++ bars)))
-
 -- whole lines, or nothing: what follows them begins a line
 abbrev pub WholeLines : List ℕ → Type 0
 WholeLines rows = (rows ≡ []) ⊎ ((bytes : List ℕ) × (rows ≡ bytes ++ (lineFeed ∷ [])))
 
--- a refusal line is printed alone, and the labels program prints it last
-abbrev pub Refused : List ℕ → List ℕ → Type 0
-Refused labels tally =
-    (ordinal : ℕ) × (stop : Stop) × (goesOn stop ≡ false) × (tally ≡ refusalLine ordinal stop) × (rows : List ℕ) × WholeLines rows × (labels ≡ rows ++ tally)
+-- no line that follows a history is refused, and the table of all bars is printed
+pub record Tabled (history : List Bar) (lines : List Line) (tally : List ℕ) : Type 0 where
+  pub bars : List Bar
+  pub accepted : lines ≡ map Prices bars
+  pub few : length (history ++ bars) ≤ mostBars
+  pub prints : tally ≡ tallyLines 0 (historyTally (history ++ bars))
+
+-- a refusal line is printed and nothing else, and the labels program prints it last
+pub record Refused (labels tally : List ℕ) : Type 0 where
+  pub ordinal : ℕ
+  pub stop : Stop
+  pub refused : goesOn stop ≡ false
+  pub prints : tally ≡ refusalLine ordinal stop
+  pub rows : List ℕ
+  pub whole : WholeLines rows
+  pub last : labels ≡ rows ++ tally
 
 abbrev pub SameRefusal : List ℕ → Type 0
 SameRefusal input = Tabled [] (map lineOf (linesOf input)) (outputOf input) ⊎ Refused (labels.outputOf input) (outputOf input)

@@ -123,8 +123,6 @@ closed s = cond (eqb (length (s .line)) 0) s (stateAfter s (lineFeed ∷ []))
 abbrev pub endPrints : State → List ℕ
 endPrints s = printed (closed s)
 
--- ---- the code's helper
-
 -- what reading so many bytes gathers, behind n bars
 abbrev pub gatheredOf : ℕ → ℕ → Read → Gathered
 gatheredOf used n read = record { line = partialOf (read .line); used = used; bars = n + length (read .bars); stop = read .stop }

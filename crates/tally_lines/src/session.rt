@@ -6,6 +6,7 @@ ghost use Prim.Native.Nat.{_+_, _*_, _≤_, _<_};
 ghost use lib.Dec.{leb};
 ghost use lib.ListN.{length, take};
 ghost use Rattle.measures.specs.Bar.{barsOf, overlay};
+ghost use Rattle.recognisers.specs.Number.{mostBars};
 ghost use Rattle.text.specs.Lines.{content, partialOf};
 ghost use Rattle.label_lines.specs.Output.{goesOn};
 ghost use Rattle.tally_lines.specs.Output.{tallyRoom};
@@ -65,7 +66,7 @@ pub fn begin() -> Session
 
 // How many bars are fed at once: up to 1,024, as many as a box that counts so many may still take; or one, whose feed is then refused.
 fn batch(count: u32) -> usize
-    ensures { λ r. ⌜ (1 ≤ r) × (r ≤ 1024) × (1 < r → count + r ≤ 1000000) ⌝ }
+    ensures { λ r. ⌜ (1 ≤ r) × (r ≤ 1024) × (1 < r → count + r ≤ mostBars) ⌝ }
 {
     let left = MOST_BARS - least(count as usize, MOST_BARS);
     let most = least(left, 1024);
@@ -75,7 +76,7 @@ fn batch(count: u32) -> usize
 // Feeds bars all at once, which leaves what feeding them one by one does (proofs/BatchLaws.antt). No bars, no feed: a tally that doesn't add
 // up is refused with the first bar.
 fn feed_all(held: BarBox, tally: [TallyRow; RECOGNISERS], prices: &[f64]) -> Tallied
-    requires { ⌜ (length (now prices) ≡ 4 * length (barsOf (now prices))) × (length (now prices) ≤ 4096) × (1 < length (barsOf (now prices)) → held .count + length (barsOf (now prices)) ≤ 1000000) ⌝ }
+    requires { ⌜ (length (now prices) ≡ 4 * length (barsOf (now prices))) × (length (now prices) ≤ 4096) × (1 < length (barsOf (now prices)) → held .count + length (barsOf (now prices)) ≤ mostBars) ⌝ }
     ensures { λ r. ⌜ r ≡ fedAll held tally (barsOf (now (prices .entry))) ⌝ }
 {
     if prices.len() == 0 {

@@ -2,7 +2,7 @@
 use mathlib.Core.Path.{refl}
 use native.Mathlib.Omega.{arith}
 use borrow.Author.Needs.{needs}
-use Rattle.measures.specs.Bar.{pricesOf}
+use Rattle.measures.specs.Bar.{pricesOf, putBar}
 use Rattle.label_lines.proofs.SessionLaws.{fed-refused, fed-left, fed-accepted}
 use Rattle.label_lines.proofs.session.feed_bar.Statement.{statement}
 use Rattle.label_lines.proofs.session.feed_bar.Tie as tie
@@ -12,6 +12,12 @@ cast-ordinal c = search needs
 
 add-ordinal : tie.Need-add-ordinal
 add-ordinal c = search needs
+
+slice-aggregate-put-bar : tie.Need-slice-aggregate-put-bar
+slice-aggregate-put-bar c = search needs
+
+put-bar-requires : tie.Need-put-bar-requires
+put-bar-requires c κs = search needs
 
 slice-aggregate-feed : tie.Need-slice-aggregate-feed
 slice-aggregate-feed c = search needs
@@ -41,15 +47,17 @@ same-length : tie.Need-same-length
 same-length c = search needs
 
 returns : tie.Need-returns
-unfolding pricesOf
+unfolding putBar pricesOf
 returns c =
     let refused = c .before .before in
     let verdict = refused .before .before .before in
     let fed = verdict .before .before .before .before in
-    let args = fed .before .before .before .before .before .args in
+    let put = fed .before .before .before .before in
+    let args = put .before .before .before .before .args in
+    let is = rw (put .put-bar .ensures) at (fed .feed .ensures) in
     let denied = verdict .verdict .given .1 in
-    let law = fed-refused (args .held) (args .bar) (fed .feed .result) (fed .feed .ensures .0) _ denied in
-    let left = fed-left (args .held) (args .bar) (fed .feed .result) (fed .feed .ensures .0) _ denied in
+    let law = fed-refused (args .held) (args .bar) (fed .feed .result) (is .0) _ denied in
+    let left = fed-left (args .held) (args .bar) (fed .feed .result) (is .0) _ denied in
     let wrote = refused .write-refusal .ensures in
     rw law (left, refl, omega (arith, wrote .0), wrote .1, wrote .2)
 
@@ -57,15 +65,17 @@ same-length-2 : tie.Need-same-length-2
 same-length-2 c = search needs
 
 returns-2 : tie.Need-returns-2
-unfolding pricesOf
+unfolding putBar pricesOf
 returns-2 c =
     let rows = c .before .before in
     let told = rows .before .before .before in
     let fed = told .before .before .before .before in
-    let args = fed .before .before .before .before .before .args in
-    let law = fed-accepted (args .held) (args .bar) (fed .feed .result) (fed .feed .ensures .0) (told .enum-told .given .1) in
+    let put = fed .before .before .before .before in
+    let args = put .before .before .before .before .args in
+    let is = rw (put .put-bar .ensures) at (fed .feed .ensures) in
+    let law = fed-accepted (args .held) (args .bar) (fed .feed .result) (is .0) (told .enum-told .given .1) in
     let wrote = rows .write-rows .ensures in
-    rw (law, ← fed .feed .ensures .1 .0) (refl, refl, wrote .0, wrote .1, wrote .2)
+    rw (law, ← is .1 .0) (refl, refl, wrote .0, wrote .1, wrote .2)
 
 pub feed-bar-spec : {M : Type 1} → statement M
 feed-bar-spec =
@@ -73,6 +83,8 @@ feed-bar-spec =
     (tie.spec
     cast-ordinal
     add-ordinal
+    slice-aggregate-put-bar
+    put-bar-requires
     slice-aggregate-feed
     slice-aggregate-feed-2
     feed-requires
