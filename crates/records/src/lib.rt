@@ -4,9 +4,8 @@
 // work is done on plain values.
 ghost use mathlib.Core.Path.{_≡_};
 ghost use mathlib.Core.Bool.{true};
-ghost use mathlib.Core.List.{[], _∷_, _++_};
 ghost use Prim.Native.Nat as Nat;
-ghost use Prim.Native.Nat.{_+_, _-_, _≤_, _<_};
+ghost use Prim.Native.Nat.{_+_, _-_, _≤_};
 ghost use lib.ListN.{length, take, drop};
 ghost use Rattle.measures.specs.Window.{upTo, windowOf};
 ghost use Rattle.recognisers.specs.declared.call.Answer.the-variants.{Labels};
