@@ -17,8 +17,11 @@ const FACTOR: u64 = 2654435761;
 
 const WORD: u64 = 0x1_0000_0000;
 
-// Each recogniser at each offset from 0, which is refused, to 44, which is refused too.
-pub const LOOKS: u32 = RECOGNISERS as u32 * OFFSETS;
+// The recognisers, as a call numbers them.
+pub const KINDS: u32 = RECOGNISERS as u32;
+
+// Each of them at each offset from 0, which is refused, to 44, which is refused too.
+pub const LOOKS: u32 = KINDS * OFFSETS;
 
 pub const OFFSETS: u32 = 45;
 

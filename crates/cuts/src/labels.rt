@@ -10,6 +10,9 @@ use recognisers::counts::RECOGNISERS;
 use recognisers::counts::ROW_BYTES;
 use std::num::wrapping_add_u64;
 
+// The labels, as their codes count them.
+const CODES: u8 = LABELS as u8;
+
 // How many of the v1 at a place of the sheet and each so many bytes on are a code, or are not.
 fn count(sheet: &[u8], from: usize, by: usize, code: u8, is: bool) -> u64
     requires { ⌜ (1 ≤ by) × (by ≤ rowBytes) ⌝ }
@@ -38,7 +41,7 @@ pub fn write_recognisers(prices: &[f64]) {
 pub fn write_codes(prices: &[f64]) {
     let sheet = rows(prices);
     let mut code = 1u8;
-    while (code as usize) < LABELS {
+    while code < CODES {
         let n = count(&sheet, 0, 2, code, true);
         if n != 0 {
             print::number(b" ", code as u64);

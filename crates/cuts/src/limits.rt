@@ -2,6 +2,7 @@
 use crate::cuts::SHEET;
 use crate::cuts::feed_to;
 use crate::cuts::verdict_number;
+use crate::digest::KINDS;
 use crate::digest::of_box;
 use crate::digest::of_bytes;
 use crate::digest::of_places;
@@ -12,7 +13,6 @@ use recognisers::Thresholds;
 use recognisers::call::answer_in;
 use recognisers::call::ordinal_in;
 use recognisers::counts::PLACES;
-use recognisers::counts::RECOGNISERS;
 use recognisers::counts::ROW_BYTES;
 use recognisers::export::answer_number;
 
@@ -101,7 +101,7 @@ pub fn write_look(b: BarBox, k: u32, di: u32) {
 // Every recogniser at an offset, v1 × 256 + v2, then the ordinal, which is the same for all.
 pub fn write_looks(b: BarBox, di: u32) {
     let mut k = 0u32;
-    while (k as usize) < RECOGNISERS {
+    while k < KINDS {
         print::number(
             b" ",
             answer_number(answer_in(bar_box::look(b, k, di))) as u64,

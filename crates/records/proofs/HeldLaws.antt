@@ -1,24 +1,24 @@
--- Windows held by value: one bar more, what is left to gather, the window of a history, and the answer out of two windows. Assumes nothing.
+-- Windows held by value: one bar more, the window of a history, and the answer out of two windows. Assumes nothing.
 use Prim.Native.Nat.{ℕ, suc, _+_, _-_, _*_, _≤_, _<_, min}
-use mathlib.Core.Path.{_≡_, refl, ap, sym, _∙_}
+use mathlib.Core.Path.{_≡_, refl, ap, _∙_}
 use mathlib.Core.Bool.{true, cond}
-use mathlib.Core.List.{List, [], _∷_, _++_, append-assoc, append-nil}
+use mathlib.Core.List.{List, [], _∷_, _++_}
 use native.Mathlib.Omega.{arith}
+use native.Mathlib.Numerals.{add-one}
 use lib.Dec.{eqb}
-use lib.ListN.{length, getD, take, drop, length-append}
-use lib.Seq.{take-at, length-take-le}
+use lib.ListN.{length, getD, take, drop, length-append, length-drop}
+use lib.Seq.{take-at, take-suc, getD-drop, length-take-le}
 use lib.Ieee.{Float}
 use Rattle.measures.specs.Bar.{Bar, barOf, noBar, barsOf, pricesOf, putBar}
 use Rattle.measures.specs.Window.{upTo, windowOf}
 use Rattle.measures.proofs.PriceLaws.{length-prices, bars-prices, put-room}
-use Rattle.measures.proofs.RunLaws.{from-bar}
 use Rattle.measures.proofs.WindowLaws.{window-part}
 use Rattle.recognisers.proofs.Reach.{pair-near}
 use Rattle.recognisers.specs.Threshold.{Thresholds}
 use Rattle.recognisers.specs.Label.{Pair}
 use Rattle.recognisers.specs.declared.call.Answer.the-variants.{Labels}
 use Rattle.recognisers.specs.Number.{gated, reachBars, quarterBars, gateEnd}
-use Rattle.recognisers.specs.Table.{judgeOf, pairAt}
+use Rattle.recognisers.specs.Table.{judgeOf}
 use Rattle.recognisers.specs.Refusal.{answerTo, plainVerdict, plainAnswer}
 use Rattle.recognisers.proofs.TableLaws.{gate-enough}
 use Rattle.records.specs.declared.Window.{Window}
@@ -40,7 +40,7 @@ bars-append n (o ∷ c ∷ h ∷ l ∷ rest) qs e = ap (λ (bs : List Bar). barO
 abbrev pub withBar : Window → Bar → Window
 withBar w b = record { prices = putBar (w .prices) (w .count) b; count = w .count + 1 }
 
-pub bar-more : (w : Window) (b : Bar) → 4 * (w .count + 1) ≤ length (w .prices) → windowBars (withBar w b) ≡ windowBars w ++ b ∷ []
+bar-more : (w : Window) (b : Bar) → 4 * (w .count + 1) ≤ length (w .prices) → windowBars (withBar w b) ≡ windowBars w ++ b ∷ []
 unfolding windowBars
 bar-more w b fits =
     let n = w .count in
@@ -54,32 +54,26 @@ bar-more w b fits =
     ∙ bars-append n before four size
     ∙ ap (λ (bs : List Bar). barsOf before ++ bs) (bars-prices (b ∷ []))
 
--- ---- what is left to gather, of the bars before a place
+pub no-bars : (ps : List Float) → windowBars (record { prices = ps; count = 0 }) ≡ []
+unfolding windowBars barsOf
+no-bars ps = refl
 
-module _ (bars : List Bar) (to : ℕ) where
-  -- the window has n bars, and these, once the bars from j on are gathered
-  abbrev pub Left : Window → ℕ → ℕ → List Bar → Type 0
-  Left w j n all = (w .count + (to - j) ≡ n) × (windowBars w ++ take (to - j) (drop j bars) ≡ all)
-
-  pub left-more : (w next : Window) (j n : ℕ) (all : List Bar) → j < to → to ≤ length bars → (next .count ≡ w .count + 1) × (windowBars next ≡ windowBars w ++ getD bars j noBar ∷ [])
-      → Left w j n all → Left next (j + 1) n all
-  left-more w next j n all less inside e left =
-      let one : to - j ≡ suc (to - (j + 1)) = omega arith in
-      (omega (arith, e .0, left .0), rw (e .1) (append-assoc (windowBars w) (getD bars j noBar ∷ []) _ ∙ rw (one, from-bar bars j (omega arith)) at (left .1)))
-
-  pub left-none : (w : Window) (j n : ℕ) (all : List Bar) → to ≤ j → Left w j n all → (w .count ≡ n) × (windowBars w ≡ all)
-  left-none w j n all past left =
-      let none : to - j ≡ 0 = omega arith in
-      (omega (arith, left .0), sym (append-nil (windowBars w)) ∙ rw none at (left .1))
+-- the bars of a history from a place on, with the next one
+pub next-bar : (bars : List Bar) (from : ℕ) (w : Window) → from + w .count < length bars → 4 * (w .count + 1) ≤ length (w .prices) → windowBars w ≡ take (w .count) (drop from bars)
+    → windowBars (withBar w (getD bars (from + w .count) noBar)) ≡ take (w .count + 1) (drop from bars)
+next-bar bars from w less fits e =
+    let n = w .count in
+    let inside : n < length (drop from bars) = simp length-drop (omega arith) in
+    bar-more w (getD bars (from + n) noBar) fits ∙ rw (e, add-one n, take-suc (drop from bars) n noBar inside, getD-drop from bars n noBar)
 
 -- ---- the window of a history
 
--- an empty window into which its bars are gathered
-pub window-gathered : (r w : Window) (s : Span) (bars : List Bar) (di n : ℕ) → let p = upTo (length bars) di in w .count ≡ 0 → (s .to ≡ p) × (s .from ≡ p - min n p)
-    → (r .count ≡ w .count + (s .to - s .from)) × (windowBars r ≡ windowBars w ++ take (s .to - s .from) (drop (s .from) bars)) → (r .count ≤ n) × (windowBars r ≡ windowOf bars di n)
-unfolding windowBars barsOf
-window-gathered r w s bars di n none at got =
-    (omega (arith, none, at .0, at .1, got .0), simp (none, at .0, at .1) at (got .1) ∙ window-part bars di n)
+pub window-gathered : (r : Window) (s : Span) (bars : List Bar) (di n : ℕ) → let p = upTo (length bars) di in (s .from ≡ p - min n p) × (s .count ≡ min n p)
+    → (r .count ≡ s .count) × (windowBars r ≡ take (s .count) (drop (s .from) bars)) → (r .count ≤ n) × (windowBars r ≡ windowOf bars di n)
+window-gathered r s bars di n at got =
+    let p = upTo (length bars) di in
+    let m : p - (p - min n p) ≡ min n p = omega arith in
+    (omega (arith, at .1, got .0), got .1 ∙ rw (at .0, at .1) (rw m at (window-part bars di n)))
 
 -- ---- the answer
 

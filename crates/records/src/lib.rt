@@ -4,9 +4,8 @@
 // work is done on plain values.
 ghost use mathlib.Core.Path.{_≡_};
 ghost use mathlib.Core.Bool.{true};
-ghost use mathlib.Core.List.{[], _∷_, _++_};
 ghost use Prim.Native.Nat as Nat;
-ghost use Prim.Native.Nat.{_+_, _-_, _≤_, _<_};
+ghost use Prim.Native.Nat.{_+_, _-_, _≤_};
 ghost use lib.ListN.{length, take, drop};
 ghost use Rattle.measures.specs.Window.{upTo, windowOf};
 ghost use Rattle.recognisers.specs.declared.call.Answer.the-variants.{Labels};
@@ -32,32 +31,26 @@ struct Window {
     count: usize,
 }
 
-// The places of a run of bars: from one on, up to the one before another.
+// A run of bars: the place of its first, and how many there are.
 struct Span {
     from: usize,
-    to: usize,
+    count: usize,
 }
 
-fn empty() -> Window
-    ensures { λ r. ⌜ r .count ≡ 0 ⌝ }
-{
-    Window {
-        prices: [0.0; counts::REACH_PRICES],
-        count: 0,
-    }
+// Places for the prices of a window.
+fn no_prices() -> [f64; counts::REACH_PRICES] {
+    [0.0; counts::REACH_PRICES]
 }
 
-// The window with the bars from a place on, up to the one before another. No value of a window's size is copied in a turn.
-fn gathered(bars: &[Bar], mut i: usize, to: usize, w: Window) -> Window
-    requires { ⌜ (to ≤ length (now bars)) × (w .count + (to - i) ≤ reachBars) ⌝ }
-    ensures { λ r. ⌜ (r .count ≡ w .count + (to - i)) × (windowBars r ≡ windowBars w ++ take (to - i) (drop i (now (bars .entry)))) ⌝ }
+// The window of n bars from a place on. No value of a window's size is copied in a turn.
+fn gathered(bars: &[Bar], from: usize, n: usize, mut prices: [f64; counts::REACH_PRICES]) -> Window
+    requires { ⌜ (from + n ≤ length (now bars)) × (n ≤ reachBars) ⌝ }
+    ensures { λ r. ⌜ (r .count ≡ n) × (windowBars r ≡ take n (drop from (now (bars .entry)))) ⌝ }
 {
-    let mut prices = w.prices;
-    let mut count = w.count;
-    while i < to {
-        measures::put_bar(bars[i], &mut prices, count);
+    let mut count = 0usize;
+    while count < n {
+        measures::put_bar(bars[from + count], &mut prices, count);
         count += 1;
-        i += 1;
     }
     Window {
         prices: prices,
@@ -67,12 +60,13 @@ fn gathered(bars: &[Bar], mut i: usize, to: usize, w: Window) -> Window
 
 // Where the last n bars up to the judged one are.
 fn span_of(len: usize, di: usize, n: usize) -> Span
-    ensures { λ r. ⌜ (r .to ≡ upTo len di) × (r .from ≡ upTo len di - Nat.min n (upTo len di)) ⌝ }
+    ensures { λ r. ⌜ (r .from ≡ upTo len di - Nat.min n (upTo len di)) × (r .count ≡ Nat.min n (upTo len di)) ⌝ }
 {
     let p = measures::up_to(len, di);
+    let m = measures::least(n, p);
     Span {
-        from: p - measures::least(n, p),
-        to: p,
+        from: p - m,
+        count: m,
     }
 }
 
@@ -82,7 +76,7 @@ fn window_of(bars: &[Bar], di: usize, n: usize) -> Window
     ensures { λ r. ⌜ (r .count ≤ reachBars) × (windowBars r ≡ windowOf (now (bars .entry)) di n) ⌝ }
 {
     let s = span_of(bars.len(), di, n);
-    gathered(bars, s.from, s.to, empty())
+    gathered(bars, s.from, s.count, no_prices())
 }
 
 // The pair at an offset of a history of len bars, out of the judged bar's window and the gate's.

@@ -4,9 +4,6 @@ use borrow.Author.Needs.{needs}
 use Rattle.records.proofs.answer.Statement.{statement}
 use Rattle.records.proofs.answer.Tie as tie
 
-pair-in-requires : tie.Need-pair-in-requires
-pair-in-requires c κs = search needs
-
 returns : tie.Need-returns
 returns c = simp (sym (c .before .before .before .plain-verdict .ensures) ∙ c .before .why .given .1)
 
@@ -16,4 +13,4 @@ returns-2 c =
     simp (sym (told .before .before .plain-verdict .ensures) ∙ told .enum-told .given .1, c .pair-in .ensures)
 
 pub answer-spec : {M : Type 1} → statement M
-answer-spec = tie.close (tie.spec (λ c κs. tt) (λ c. search needs) (λ c. search needs) pair-in-requires returns returns-2)
+answer-spec = tie.close (tie.spec (λ c κs. tt) (λ c. search needs) (λ c. search needs) (λ c κs. search needs) returns returns-2)

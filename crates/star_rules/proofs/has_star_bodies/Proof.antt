@@ -4,9 +4,6 @@ use borrow.Author.Needs.{needs}
 use Rattle.star_rules.proofs.has_star_bodies.Statement.{statement}
 use Rattle.star_rules.proofs.has_star_bodies.Tie as tie
 
-int-to-float-result : tie.Need-int-to-float-result
-int-to-float-result c = search needs
-
 returns : tie.Need-returns
 unfolding starBodies
 returns c =
@@ -21,6 +18,6 @@ has-star-bodies-spec =
     tie.close (tie.spec
     (λ c κs. tt)
     (λ c κs. tt)
-    int-to-float-result
+    (λ c. search needs)
     (λ c κs. tt)
     returns)

@@ -5,21 +5,6 @@ use borrow.Author.Needs.{needs}
 use Rattle.star_rules.proofs.san_szx.Statement.{statement}
 use Rattle.star_rules.proofs.san_szx.Tie as tie
 
-int-to-float-x : tie.Need-int-to-float-x
-int-to-float-x c = search needs
-
-add-found : tie.Need-add-found
-add-found c = search needs
-
-add-found-2 : tie.Need-add-found-2
-add-found-2 c = search needs
-
-add-found-3 : tie.Need-add-found-3
-add-found-3 c = search needs
-
-add-found-4 : tie.Need-add-found-4
-add-found-4 c = search needs
-
 returns : tie.Need-returns
 unfolding sanSzx dojiCount
 returns c =
@@ -37,15 +22,15 @@ pub san-szx-spec : {M : Type 1} → statement M
 san-szx-spec =
     tie.close
     (tie.spec
-    int-to-float-x
+    (λ c. search needs)
     (λ c κs. tt)
     (λ c κs. tt)
     (λ c κs. tt)
     (λ c κs. tt)
     (λ c κs. tt)
-    add-found
-    add-found-2
-    add-found-3
-    add-found-4
+    (λ c. search needs)
+    (λ c. search needs)
+    (λ c. search needs)
+    (λ c. search needs)
     (λ c κs. tt)
     returns)

@@ -4,9 +4,6 @@ use borrow.Author.Needs.{needs}
 use Rattle.star_rules.proofs.szx.Statement.{statement}
 use Rattle.star_rules.proofs.szx.Tie as tie
 
-int-to-float-is-doji : tie.Need-int-to-float-is-doji
-int-to-float-is-doji c = search needs
-
 returns : tie.Need-returns
 unfolding szx
 returns c =
@@ -22,7 +19,7 @@ pub szx-spec : {M : Type 1} → statement M
 szx-spec =
     tie.close
     (tie.spec
-    int-to-float-is-doji
+    (λ c. search needs)
     (λ c κs. tt)
     (λ c κs. tt)
     (λ c κs. tt)

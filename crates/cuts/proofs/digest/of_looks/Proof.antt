@@ -10,37 +10,16 @@ Inv-loop b d₀ i₀ d i = i ≤ 810
 abbrev μ-loop : tie.MeasureT-loop
 μ-loop b d₀ i₀ d i = 810 - i
 
-loop-holds : tie.Need-loop-holds Inv-loop μ-loop
-loop-holds c = search needs
-
-look-requires : tie.Need-look-requires Inv-loop μ-loop
-look-requires c κs = search needs
-
-mix-answer-requires : tie.Need-mix-answer-requires Inv-loop μ-loop
-mix-answer-requires c κs = search needs
-
-add-i : tie.Need-add-i Inv-loop μ-loop
-add-i c = search needs
-
-loop-less : tie.Need-loop-less Inv-loop μ-loop
-loop-less c = search needs
-
-loop-again : tie.Need-loop-again Inv-loop μ-loop
-loop-again c = search needs
-
-returns : tie.Need-returns Inv-loop μ-loop
-returns c = search needs
-
 pub of-looks-spec : {M : Type 1} → statement M
 of-looks-spec =
     tie.close
     (tie.spec
     Inv-loop
     μ-loop
-    loop-holds
-    look-requires
-    mix-answer-requires
-    add-i
-    loop-less
-    loop-again
-    returns)
+    (λ c. search needs)
+    (λ c κs. search needs)
+    (λ c κs. search needs)
+    (λ c. search needs)
+    (λ c. search needs)
+    (λ c. search needs)
+    (λ c. search needs))

@@ -8,9 +8,6 @@ use Rattle.measures.proofs.Order.{is-nan}
 use Rattle.recognisers.proofs.export.of_bits.Statement.{statement}
 use Rattle.recognisers.proofs.export.of_bits.Tie as tie
 
-not-a-number-requires : tie.Need-not-a-number-requires
-not-a-number-requires c κs = search needs
-
 float-from-bits-result : tie.Need-float-from-bits-result
 float-from-bits-result c = rw (nanBits-above, le-ltb _ _ (c .if1 .left)) tt
 
@@ -19,8 +16,5 @@ returns c =
     c .not-a-number .ensures
     ∙ sym (is-nan _ (sym (nanBits-is binary64 (c .before .before .args .w)) ∙ nanBits-above binary64 _ ∙ lt-ltb _ _ (c .before .if1 .taken)))
 
-returns-2 : tie.Need-returns-2
-returns-2 c = search needs
-
 pub of-bits-spec : {M : Type 1} → statement M
-of-bits-spec = tie.close (tie.spec not-a-number-requires float-from-bits-result returns returns-2)
+of-bits-spec = tie.close (tie.spec (λ c κs. search needs) float-from-bits-result returns (λ c. search needs))

@@ -12,24 +12,6 @@ use Rattle.rule_table.proofs.TableLaws.{gate-enough}
 use Rattle.recognisers.proofs.export.pair_at.Statement.{statement}
 use Rattle.recognisers.proofs.export.pair_at.Tie as tie
 
-slice-aggregate-decode : tie.Need-slice-aggregate-decode
-slice-aggregate-decode c = search needs
-
-slice-aggregate-decode-2 : tie.Need-slice-aggregate-decode-2
-slice-aggregate-decode-2 c = search needs
-
-decode-requires : tie.Need-decode-requires
-decode-requires c κs = search needs
-
-decode-requires-2 : tie.Need-decode-requires-2
-decode-requires-2 c κs = search needs
-
-array-share-prefix-w : tie.Need-array-share-prefix-w
-array-share-prefix-w c = search needs
-
-array-share-prefix-gate : tie.Need-array-share-prefix-gate
-array-share-prefix-gate c = search needs
-
 slice-aggregate-judge : tie.Need-slice-aggregate-judge
 slice-aggregate-judge c =
     let call = c .before .before .before .before .before .before in
@@ -54,14 +36,14 @@ pair-at-spec =
     tie.close
     (tie.spec
     (λ c κs. tt)
-    slice-aggregate-decode
-    decode-requires
+    (λ c. search needs)
+    (λ c κs. search needs)
     (λ c κs. tt)
-    slice-aggregate-decode-2
-    decode-requires-2
-    array-share-prefix-w
+    (λ c. search needs)
+    (λ c κs. search needs)
+    (λ c. search needs)
     slice-aggregate-judge
-    array-share-prefix-gate
+    (λ c. search needs)
     slice-aggregate-judge-2
     (λ c κs. tt)
     returns)

@@ -7,12 +7,6 @@ use Rattle.recognisers.specs.Export.{priceAt}
 use Rattle.recognisers.proofs.export.price_at.Statement.{statement}
 use Rattle.recognisers.proofs.export.price_at.Tie as tie
 
-word-requires : tie.Need-word-requires
-word-requires c κs = search needs
-
-of-bits-requires : tie.Need-of-bits-requires
-of-bits-requires c κs = search needs
-
 returns : tie.Need-returns
 unfolding priceAt
 returns c =
@@ -20,4 +14,4 @@ returns c =
     c .of-bits .ensures ∙ ap (ofBits binary64) (c .before .word .ensures ∙ sym (word-at (args .s .now) (args .at)))
 
 pub price-at-spec : {M : Type 1} → statement M
-price-at-spec = tie.close (tie.spec word-requires of-bits-requires returns)
+price-at-spec = tie.close (tie.spec (λ c κs. search needs) (λ c κs. search needs) returns)

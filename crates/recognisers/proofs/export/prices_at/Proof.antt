@@ -20,27 +20,6 @@ loop-holds : tie.Need-loop-holds Inv-loop μ-loop
 unfolding pricesAt
 loop-holds c = (omega arith, refl, refl)
 
-mul-price-at : tie.Need-mul-price-at Inv-loop μ-loop
-mul-price-at c = omega arith
-
-add-price-at : tie.Need-add-price-at Inv-loop μ-loop
-add-price-at c = omega arith
-
-price-at-requires : tie.Need-price-at-requires Inv-loop μ-loop
-price-at-requires c κs = omega arith
-
-mul-out : tie.Need-mul-out Inv-loop μ-loop
-mul-out c = omega arith
-
-slice-write-out : tie.Need-slice-write-out Inv-loop μ-loop
-slice-write-out c = omega arith
-
-add-i : tie.Need-add-i Inv-loop μ-loop
-add-i c = omega arith
-
-loop-less : tie.Need-loop-less Inv-loop μ-loop
-loop-less c = omega arith
-
 loop-again : tie.Need-loop-again Inv-loop μ-loop
 loop-again c =
     let now = c .before .before .loop in
@@ -62,13 +41,13 @@ prices-at-spec =
     Inv-loop
     μ-loop
     loop-holds
-    mul-price-at
-    add-price-at
-    price-at-requires
-    mul-out
-    slice-write-out
-    add-i
-    loop-less
+    (λ c. omega arith)
+    (λ c. omega arith)
+    (λ c κs. omega arith)
+    (λ c. omega arith)
+    (λ c. omega arith)
+    (λ c. omega arith)
+    (λ c. omega arith)
     loop-again
     same-length
     returns)

@@ -5,32 +5,17 @@ use borrow.Author.Needs.{needs}
 use Rattle.replay.proofs.command.has_form.Statement.{statement}
 use Rattle.replay.proofs.command.has_form.Tie as tie
 
-mul-if1 : tie.Need-mul-if1
-mul-if1 c = search needs
-
-add-if1 : tie.Need-add-if1
-add-if1 c = search needs
-
 returns : tie.Need-returns
 unfolding hasForm
 returns c = simp (ne-eqb _ _ (c .if1 .taken))
-
-shared-slice-read-if2 : tie.Need-shared-slice-read-if2
-shared-slice-read-if2 c = search needs
 
 returns-2 : tie.Need-returns-2
 unfolding hasForm
 returns-2 c = simp (eq-eqb _ _ (c .before .before .if1 .left), ne-eqb _ _ (c .if2 .taken))
 
-shared-slice-read-if3 : tie.Need-shared-slice-read-if3
-shared-slice-read-if3 c = search needs
-
 returns-3 : tie.Need-returns-3
 unfolding hasForm
 returns-3 c = simp (eq-eqb _ _ (c .before .before .before .before .if1 .left), eq-eqb _ _ (c .before .before .if2 .left), ne-eqb _ _ (c .if3 .taken))
-
-decode-requires : tie.Need-decode-requires
-decode-requires c κs = search needs
 
 returns-4 : tie.Need-returns-4
 unfolding hasForm
@@ -41,12 +26,12 @@ pub has-form-spec : {M : Type 1} → statement M
 has-form-spec =
     tie.close
     (tie.spec
-    mul-if1
-    add-if1
+    (λ c. search needs)
+    (λ c. search needs)
     returns
-    shared-slice-read-if2
+    (λ c. search needs)
     returns-2
-    shared-slice-read-if3
+    (λ c. search needs)
     returns-3
-    decode-requires
+    (λ c κs. search needs)
     returns-4)

@@ -5,9 +5,6 @@ use borrow.Author.Needs.{needs}
 use Rattle.replay.proofs.command.is_new.Statement.{statement}
 use Rattle.replay.proofs.command.is_new.Tie as tie
 
-shared-slice-read-result : tie.Need-shared-slice-read-result
-shared-slice-read-result c = search needs
-
 returns : tie.Need-returns
 unfolding isNew
 returns c = simp (eq-eqb _ _ (c .before .if1 .taken))
@@ -17,4 +14,4 @@ unfolding isNew
 returns-2 c = simp (ne-eqb _ _ (c .if1 .left))
 
 pub is-new-spec : {M : Type 1} → statement M
-is-new-spec = tie.close (tie.spec shared-slice-read-result returns returns-2)
+is-new-spec = tie.close (tie.spec (λ c. search needs) returns returns-2)

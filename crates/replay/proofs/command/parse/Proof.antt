@@ -5,15 +5,9 @@ use borrow.Author.Needs.{needs}
 use Rattle.replay.proofs.command.parse.Statement.{statement}
 use Rattle.replay.proofs.command.parse.Tie as tie
 
-is-new-requires : tie.Need-is-new-requires
-is-new-requires c κs = search needs
-
 returns : tie.Need-returns
 unfolding commandOf
 returns c = simp (sym (c .before .is-new .ensures), c .if1 .taken)
-
-has-form-requires : tie.Need-has-form-requires
-has-form-requires c κs = search needs
 
 returns-2 : tie.Need-returns-2
 unfolding commandOf
@@ -21,18 +15,12 @@ returns-2 c =
     let first = c .before .before in
     simp (sym (first .before .is-new .ensures), first .if1 .left, sym (c .before .has-form .ensures), c .if2 .taken)
 
-has-form-requires-2 : tie.Need-has-form-requires-2
-has-form-requires-2 c κs = search needs
-
 returns-3 : tie.Need-returns-3
 unfolding commandOf
 returns-3 c =
     let second = c .before .before in
     let first = second .before .before in
     simp (sym (first .before .is-new .ensures), first .if1 .left, sym (second .before .has-form .ensures), second .if2 .left, sym (c .before .has-form2 .ensures), c .if3 .taken)
-
-has-form-requires-3 : tie.Need-has-form-requires-3
-has-form-requires-3 c κs = search needs
 
 returns-4 : tie.Need-returns-4
 unfolding commandOf
@@ -54,12 +42,12 @@ pub parse-spec : {M : Type 1} → statement M
 parse-spec =
     tie.close
     (tie.spec
-    is-new-requires
+    (λ c κs. search needs)
     returns
-    has-form-requires
+    (λ c κs. search needs)
     returns-2
-    has-form-requires-2
+    (λ c κs. search needs)
     returns-3
-    has-form-requires-3
+    (λ c κs. search needs)
     returns-4
     returns-5)

@@ -18,30 +18,12 @@ abbrev μ-loop : tie.MeasureT-loop
 loop-holds : tie.Need-loop-holds Inv-loop μ-loop
 loop-holds c = record { within = omega arith; room = refl; found = refl }
 
-mul-value-at : tie.Need-mul-value-at Inv-loop μ-loop
-mul-value-at c = search needs
-
-add-value-at : tie.Need-add-value-at Inv-loop μ-loop
-add-value-at c = search needs
-
-value-at-requires : tie.Need-value-at-requires Inv-loop μ-loop
-value-at-requires c κs = search needs
-
 returns : tie.Need-returns Inv-loop μ-loop
 returns c =
     let now = c .before .before .before .loop in
     let line = c .before .before .before .before .before .args .line .now in
     let high : 16 ≤ valueOf (getD line (2 * now .i + 2) 0) = omega arith in
     payload-end (now .inv) (no-high line (now .i) high)
-
-mul-value-at-2 : tie.Need-mul-value-at-2 Inv-loop μ-loop
-mul-value-at-2 c = search needs
-
-add-value-at-2 : tie.Need-add-value-at-2 Inv-loop μ-loop
-add-value-at-2 c = search needs
-
-value-at-requires-2 : tie.Need-value-at-requires-2 Inv-loop μ-loop
-value-at-requires-2 c κs = search needs
 
 returns-2 : tie.Need-returns-2 Inv-loop μ-loop
 returns-2 c =
@@ -50,21 +32,6 @@ returns-2 c =
     let high : valueOf (getD line (2 * now .i + 2) 0) < 16 = omega arith in
     let low : 16 ≤ valueOf (getD line (2 * now .i + 3) 0) = omega arith in
     payload-end (now .inv) (no-low line (now .i) high low)
-
-mul-bytes : tie.Need-mul-bytes Inv-loop μ-loop
-mul-bytes c = omega arith
-
-add-bytes : tie.Need-add-bytes Inv-loop μ-loop
-add-bytes c = omega arith
-
-array-write-bytes : tie.Need-array-write-bytes Inv-loop μ-loop
-array-write-bytes c = search needs
-
-add-i : tie.Need-add-i Inv-loop μ-loop
-add-i c = search needs
-
-loop-less : tie.Need-loop-less Inv-loop μ-loop
-loop-less c = search needs
 
 loop-again : tie.Need-loop-again Inv-loop μ-loop
 loop-again c =
@@ -84,18 +51,18 @@ decode-spec =
     Inv-loop
     μ-loop
     loop-holds
-    mul-value-at
-    add-value-at
-    value-at-requires
+    (λ c. search needs)
+    (λ c. search needs)
+    (λ c κs. search needs)
     returns
-    mul-value-at-2
-    add-value-at-2
-    value-at-requires-2
+    (λ c. search needs)
+    (λ c. search needs)
+    (λ c κs. search needs)
     returns-2
-    mul-bytes
-    add-bytes
-    array-write-bytes
-    add-i
-    loop-less
+    (λ c. omega arith)
+    (λ c. omega arith)
+    (λ c. search needs)
+    (λ c. search needs)
+    (λ c. search needs)
     loop-again
     returns-3)

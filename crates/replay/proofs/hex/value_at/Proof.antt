@@ -6,18 +6,9 @@ use borrow.Author.Needs.{needs}
 use Rattle.replay.proofs.hex.value_at.Statement.{statement}
 use Rattle.replay.proofs.hex.value_at.Tie as tie
 
-shared-slice-read-value : tie.Need-shared-slice-read-value
-shared-slice-read-value c = search needs
-
-value-requires : tie.Need-value-requires
-value-requires c κs = search needs
-
-returns : tie.Need-returns
-returns c = search needs
-
 returns-2 : tie.Need-returns-2
 unfolding valueOf
 returns-2 c = rw (List·getD-eq-default {A = ℕ} _ 0 (c .if1 .left))
 
 pub value-at-spec : {M : Type 1} → statement M
-value-at-spec = tie.close (tie.spec shared-slice-read-value value-requires returns returns-2)
+value-at-spec = tie.close (tie.spec (λ c. search needs) (λ c κs. search needs) (λ c. search needs) returns-2)

@@ -4,45 +4,6 @@ use borrow.Author.Needs.{needs}
 use Rattle.replay.proofs.thresholds.read.Statement.{statement}
 use Rattle.replay.proofs.thresholds.read.Tie as tie
 
-f64-at-requires : tie.Need-f64-at-requires
-f64-at-requires c κs = search needs
-
-u32-at-requires : tie.Need-u32-at-requires
-u32-at-requires c κs = search needs
-
-u32-at-requires-2 : tie.Need-u32-at-requires-2
-u32-at-requires-2 c κs = search needs
-
-u32-at-requires-3 : tie.Need-u32-at-requires-3
-u32-at-requires-3 c κs = search needs
-
-u32-at-requires-4 : tie.Need-u32-at-requires-4
-u32-at-requires-4 c κs = search needs
-
-u32-at-requires-5 : tie.Need-u32-at-requires-5
-u32-at-requires-5 c κs = search needs
-
-u32-at-requires-6 : tie.Need-u32-at-requires-6
-u32-at-requires-6 c κs = search needs
-
-u32-at-requires-7 : tie.Need-u32-at-requires-7
-u32-at-requires-7 c κs = search needs
-
-f64-at-requires-2 : tie.Need-f64-at-requires-2
-f64-at-requires-2 c κs = search needs
-
-u32-at-requires-8 : tie.Need-u32-at-requires-8
-u32-at-requires-8 c κs = search needs
-
-u32-at-requires-9 : tie.Need-u32-at-requires-9
-u32-at-requires-9 c κs = search needs
-
-u32-at-requires-10 : tie.Need-u32-at-requires-10
-u32-at-requires-10 c κs = search needs
-
-u32-at-requires-11 : tie.Need-u32-at-requires-11
-u32-at-requires-11 c κs = search needs
-
 returns : tie.Need-returns
 unfolding thresholdsOf
 returns c =
@@ -66,17 +27,17 @@ pub read-spec : {M : Type 1} → statement M
 read-spec =
     tie.close
     (tie.spec
-    f64-at-requires
-    u32-at-requires
-    u32-at-requires-2
-    u32-at-requires-3
-    u32-at-requires-4
-    u32-at-requires-5
-    u32-at-requires-6
-    u32-at-requires-7
-    f64-at-requires-2
-    u32-at-requires-8
-    u32-at-requires-9
-    u32-at-requires-10
-    u32-at-requires-11
+    (λ c κs. search needs)
+    (λ c κs. search needs)
+    (λ c κs. search needs)
+    (λ c κs. search needs)
+    (λ c κs. search needs)
+    (λ c κs. search needs)
+    (λ c κs. search needs)
+    (λ c κs. search needs)
+    (λ c κs. search needs)
+    (λ c κs. search needs)
+    (λ c κs. search needs)
+    (λ c κs. search needs)
+    (λ c κs. search needs)
     returns)

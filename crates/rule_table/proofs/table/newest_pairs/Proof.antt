@@ -1,7 +1,6 @@
 -- The code is the definition.
 use Rattle.rule_table.specs.Table.{pairsAt, pairsOf}
 use Rattle.rule_table.proofs.Reach.{pair-near}
-use borrow.Author.Needs.{needs}
 use Rattle.rule_table.proofs.table.newest_pairs.Statement.{statement}
 use Rattle.rule_table.proofs.table.newest_pairs.Tie as tie
 

@@ -1,6 +1,6 @@
 -- The loop's invariant: the pairs passed are those of their rows, the others still what the rules gave. Assumes nothing.
 use Prim.Native.Nat.{_-_, _≤_, _<_}
-use mathlib.Core.Path.{_≡_, refl, sym, _∙_}
+use mathlib.Core.Path.{_≡_, _∙_}
 use mathlib.Core.List.{_++_, append-nil}
 use native.Mathlib.Omega.{arith}
 use borrow.Author.Needs.{needs}
@@ -8,7 +8,6 @@ use lib.ListN.{length, take, drop, length-set, drop-of-length-le}
 use lib.Seq.{take-all}
 use Rattle.rule_types.specs.Label.{pairA}
 use Rattle.rule_types.specs.Number.{recognisers}
-use Rattle.rule_table.specs.Table.{judgeOf, numbers, rulesOf, pairsOf}
 use Rattle.rule_table.proofs.TableLaws.{shortOrs, length-shortOrs, shortOrs-first, length-rules, shortOrs-rules, short-start, place-next}
 use Rattle.rule_table.proofs.table.pairs.Statement.{statement}
 use Rattle.rule_table.proofs.table.pairs.Tie as tie
@@ -25,27 +24,6 @@ loop-holds c =
     let n : length full ≡ recognisers = rw (c .before .rules .ensures) (length-rules _ _ _ _ _) in
     let at-start = rw (← c .first-short .ensures) at (short-start (c .before .before .before .before .args .p) full) in
     (at-start .0, n, n, at-start .1)
-
-mul-row : tie.Need-mul-row Inv-loop μ-loop
-mul-row c = search needs
-
-array-copy-out-row : tie.Need-array-copy-out-row Inv-loop μ-loop
-array-copy-out-row c = search needs
-
-row-requires : tie.Need-row-requires Inv-loop μ-loop
-row-requires c κs = search needs
-
-mul-pairs : tie.Need-mul-pairs Inv-loop μ-loop
-mul-pairs c = search needs
-
-array-set-from-pairs : tie.Need-array-set-from-pairs Inv-loop μ-loop
-array-set-from-pairs c = search needs
-
-add-k : tie.Need-add-k Inv-loop μ-loop
-add-k c = search needs
-
-loop-less : tie.Need-loop-less Inv-loop μ-loop
-loop-less c = search needs
 
 loop-again : tie.Need-loop-again Inv-loop μ-loop
 loop-again c =
@@ -76,12 +54,12 @@ pairs-spec =
     (λ c κs. tt)
     (λ c κs. tt)
     loop-holds
-    mul-row
-    array-copy-out-row
-    row-requires
-    mul-pairs
-    array-set-from-pairs
-    add-k
-    loop-less
+    (λ c. search needs)
+    (λ c. search needs)
+    (λ c κs. search needs)
+    (λ c. search needs)
+    (λ c. search needs)
+    (λ c. search needs)
+    (λ c. search needs)
     loop-again
     returns)

@@ -8,9 +8,6 @@ use borrow.Author.Needs.{needs}
 use Rattle.replay.proofs.buffer.Buffer.size.Statement.{statement}
 use Rattle.replay.proofs.buffer.Buffer.size.Tie as tie
 
-least-requires : tie.Need-least-requires
-least-requires c κs = search needs
-
 returns : tie.Need-returns
 returns c =
     let b = c .before .args .self in
@@ -23,4 +20,4 @@ returns c =
     }
 
 pub size-spec : {M : Type 1} → statement M
-size-spec = tie.close (tie.spec least-requires returns)
+size-spec = tie.close (tie.spec (λ c κs. search needs) returns)

@@ -10,23 +10,8 @@ use borrow.Author.Needs.{needs}
 use Rattle.replay.proofs.output.Output.write.Statement.{statement}
 use Rattle.replay.proofs.output.Output.write.Tie as tie
 
-size-requires : tie.Need-size-requires
-size-requires c κs = search needs
-
-sub-if1 : tie.Need-sub-if1
-sub-if1 c = search needs
-
-append-requires : tie.Need-append-requires
-append-requires c κs = search needs
-
 returns : tie.Need-returns
 returns c = c .append .ensures ∙ both-fit _ _ (omega arith)
-
-flush-requires : tie.Need-flush-requires
-flush-requires c κs = search needs
-
-append-requires-2 : tie.Need-append-requires-2
-append-requires-2 c κs = search needs
 
 returns-2 : tie.Need-returns-2
 returns-2 c =
@@ -37,10 +22,10 @@ pub write-spec : {M : Type 1} → statement M
 write-spec =
     tie.close
     (tie.spec
-    size-requires
-    sub-if1
-    append-requires
+    (λ c κs. search needs)
+    (λ c. search needs)
+    (λ c κs. search needs)
     returns
-    flush-requires
-    append-requires-2
+    (λ c κs. search needs)
+    (λ c κs. search needs)
     returns-2)

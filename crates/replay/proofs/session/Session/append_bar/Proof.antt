@@ -8,28 +8,13 @@ use borrow.Author.Needs.{needs}
 use Rattle.replay.proofs.session.Session.append_bar.Statement.{statement}
 use Rattle.replay.proofs.session.Session.append_bar.Tie as tie
 
-size-requires : tie.Need-size-requires
-size-requires c κs = search needs
-
-sub-if1 : tie.Need-sub-if1
-sub-if1 c = search needs
-
-refuse-requires : tie.Need-refuse-requires
-refuse-requires c κs = search needs
-
 returns : tie.Need-returns
 returns c =
     let kept = c .refuse .ensures .0 in
     (ap content (kept .history) ∙ no-room _ _ (omega arith), (kept .thresholds, λ full. c .refuse .ensures .1))
 
-array-share-prefix-bytes : tie.Need-array-share-prefix-bytes
-array-share-prefix-bytes c = search needs
-
 slice-aggregate-append : tie.Need-slice-aggregate-append
 slice-aggregate-append c = simp length-take (omega arith)
-
-append-requires : tie.Need-append-requires
-append-requires c κs = search needs
 
 returns-2 : tie.Need-returns-2
 returns-2 c = (
@@ -41,11 +26,11 @@ pub append-bar-spec : {M : Type 1} → statement M
 append-bar-spec =
     tie.close
     (tie.spec
-    size-requires
-    sub-if1
-    refuse-requires
+    (λ c κs. search needs)
+    (λ c. search needs)
+    (λ c κs. search needs)
     returns
-    array-share-prefix-bytes
+    (λ c. search needs)
     slice-aggregate-append
-    append-requires
+    (λ c κs. search needs)
     returns-2)

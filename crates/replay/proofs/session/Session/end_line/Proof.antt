@@ -4,21 +4,6 @@ use borrow.Author.Needs.{needs}
 use Rattle.replay.proofs.session.Session.end_line.Statement.{statement}
 use Rattle.replay.proofs.session.Session.end_line.Tie as tie
 
-size-requires : tie.Need-size-requires
-size-requires c κs = search needs
-
-next-line-requires : tie.Need-next-line-requires
-next-line-requires c κs = search needs
-
-array-share-prefix-bytes : tie.Need-array-share-prefix-bytes
-array-share-prefix-bytes c = search needs
-
-slice-aggregate-execute : tie.Need-slice-aggregate-execute
-slice-aggregate-execute c = search needs
-
-execute-requires : tie.Need-execute-requires
-execute-requires c κs = search needs
-
 returns : tie.Need-returns
 returns c =
     let next = c .before .before in
@@ -28,9 +13,9 @@ pub end-line-spec : {M : Type 1} → statement M
 end-line-spec =
     tie.close
     (tie.spec
-    size-requires
-    next-line-requires
-    array-share-prefix-bytes
-    slice-aggregate-execute
-    execute-requires
+    (λ c κs. search needs)
+    (λ c κs. search needs)
+    (λ c. search needs)
+    (λ c. search needs)
+    (λ c κs. search needs)
     returns)

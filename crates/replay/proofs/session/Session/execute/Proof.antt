@@ -17,41 +17,8 @@ use borrow.Author.Needs.{needs}
 use Rattle.replay.proofs.session.Session.execute.Statement.{statement}
 use Rattle.replay.proofs.session.Session.execute.Tie as tie
 
-decode-requires : tie.Need-decode-requires
-decode-requires c κs = search needs
-
-parse-requires : tie.Need-parse-requires
-parse-requires c κs = search needs
-
 enum-told : tie.Need-enum-told
 enum-told c = search needs
-
-new-requires : tie.Need-new-requires
-new-requires c κs = search needs
-
-enum-told-2 : tie.Need-enum-told-2
-enum-told-2 c = search needs
-
-append-bar-requires : tie.Need-append-bar-requires
-append-bar-requires c κs = search needs
-
-enum-told-3 : tie.Need-enum-told-3
-enum-told-3 c = search needs
-
-read-requires : tie.Need-read-requires
-read-requires c κs = search needs
-
-enum-told-4 : tie.Need-enum-told-4
-enum-told-4 c = search needs
-
-call-requires : tie.Need-call-requires
-call-requires c κs = search needs
-
-enum-told-5 : tie.Need-enum-told-5
-enum-told-5 c = search needs
-
-refuse-requires : tie.Need-refuse-requires
-refuse-requires c κs = search needs
 
 returns : tie.Need-returns
 unfolding historyAfter thresholdsAfter isRefused
@@ -103,18 +70,18 @@ pub execute-spec : {M : Type 1} → statement M
 execute-spec =
     tie.close
     (tie.spec
-    decode-requires
-    parse-requires
+    (λ c κs. search needs)
+    (λ c κs. search needs)
     enum-told
-    new-requires
-    enum-told-2
-    append-bar-requires
-    enum-told-3
-    read-requires
-    enum-told-4
-    call-requires
-    enum-told-5
-    refuse-requires
+    (λ c κs. search needs)
+    (λ c. search needs)
+    (λ c κs. search needs)
+    (λ c. search needs)
+    (λ c κs. search needs)
+    (λ c. search needs)
+    (λ c κs. search needs)
+    (λ c. search needs)
+    (λ c κs. search needs)
     returns
     returns-2
     returns-3
