@@ -7,6 +7,7 @@ ghost use lib.ListN.{length, getD};
 ghost use Rattle.bar_box.specs.Box.{freshBox};
 ghost use Rattle.tallies.specs.Feed.{lent, talliedOf, talliedSheet};
 use bar_box::BarBox;
+use bar_box::Outcome;
 use measures::least;
 use recognisers::Thresholds;
 use recognisers::call::Verdict;
@@ -60,7 +61,11 @@ pub(crate) fn feed_parts(
         },
         Verdict::Accepted => {
             let total = measures::count(prices);
-            let mut after = b;
+            // what a feed hands back is kept as it is: a box that is taken out of it is copied
+            let mut out = Outcome {
+                after: b,
+                verdict: Verdict::Accepted,
+            };
             let mut table = tally;
             let mut done = 0usize;
             let mut i = 0usize;
@@ -72,16 +77,18 @@ pub(crate) fn feed_parts(
                 let bars = &prices[first..past];
                 let rows = &mut sheet[at..];
                 if counts {
-                    let fed = tallies::feed(after, table, bars, rows);
-                    after = fed.after;
+                    let fed = tallies::feed(out.after, table, bars, rows);
+                    let after = fed.after;
+                    let verdict = fed.verdict;
+                    out = Outcome { after, verdict };
                     table = fed.tally;
                 } else {
-                    let fed = bar_box::feed(after, bars, rows);
-                    after = fed.after;
+                    out = bar_box::feed(out.after, bars, rows);
                 }
                 done += n;
                 i += 1;
             }
+            let after = out.after;
             Tallied {
                 verdict: Verdict::Accepted,
                 after,

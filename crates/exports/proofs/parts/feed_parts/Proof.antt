@@ -40,11 +40,11 @@ same true x = refl
 same false x = refl
 
 abbrev Inv-loop : tie.InvT-loop
-Inv-loop counts sizes prices sheet₀ total after₀ table₀ done₀ i₀ sheet after table done i = (done ≤ total) × (i ≤ length sizes + 1) × (length sizes < i → done ≡ total) × (length sheet ≡ length sheet₀)
-    × (after ≡ takenIn after₀ (take done (barsOf prices))) × (table ≡ told counts (rowsFrom after₀ (take done (barsOf prices))) table₀) × (sheet ≡ overlay sheet₀ 0 (rowsFrom after₀ (take done (barsOf prices))))
+Inv-loop counts sizes prices sheet₀ total out₀ table₀ done₀ i₀ sheet out table done i = (done ≤ total) × (i ≤ length sizes + 1) × (length sizes < i → done ≡ total) × (length sheet ≡ length sheet₀)
+    × (out .after ≡ takenIn (out₀ .after) (take done (barsOf prices))) × (table ≡ told counts (rowsFrom (out₀ .after) (take done (barsOf prices))) table₀) × (sheet ≡ overlay sheet₀ 0 (rowsFrom (out₀ .after) (take done (barsOf prices))))
 
 abbrev μ-loop : tie.MeasureT-loop
-μ-loop counts sizes prices sheet₀ total after₀ table₀ done₀ i₀ sheet after table done i = length sizes + 1 - i
+μ-loop counts sizes prices sheet₀ total out₀ table₀ done₀ i₀ sheet out table done i = length sizes + 1 - i
 
 abbrev startOf : tie.After-count Inv-loop μ-loop → tie.Start Inv-loop μ-loop
 startOf c = c .before .before .before .before .before .before .before .before
@@ -169,18 +169,18 @@ loop-again c =
       omega arith,
       all-fed part,
       ap length sheet ∙ same-size,
-      w .7 ∙ ap (λ (o : Tallied). o .after) next,
+      ap (λ (o : Outcome). o .after) (w .7) ∙ ap (λ (o : Tallied). o .after) next,
       w .8 ∙ ap (λ (o : Tallied). o .tally) next ∙ sym (ap (λ (x : Bool). told x fed-now (args .tally)) (w .0 .taken)),
       sheet,
     ))
     (λ w.
-    let sheet : c .if1 .sheet ≡ overlay (args .sheet .now) 0 fed-now = w .5 ∙ rw (w .1 .ensures .1, inv .4) (next-sheet (args .b) all (args .tally) (args .prices .now) (args .sheet .now) s e passed n enough (inv .3) (inv .6)) in (
+    let sheet : c .if1 .sheet ≡ overlay (args .sheet .now) 0 fed-now = w .4 ∙ rw (w .1 .ensures .1, inv .4) (next-sheet (args .b) all (args .tally) (args .prices .now) (args .sheet .now) s e passed n enough (inv .3) (inv .6)) in (
       omega (arith, part .part-size .ensures .1),
       omega arith,
       all-fed part,
       ap length sheet ∙ same-size,
-      w .6 ∙ ap (λ (o : Outcome). o .after) (w .1 .ensures .0) ∙ rw (inv .4) (next-box (args .b) all (args .tally) (args .prices .now) (args .sheet .now) s e passed n enough (inv .3) (inv .6)),
-      w .7 ∙ inv .5 ∙ ap (λ (x : Bool). told x (rowsFrom (args .b) (take passed bars)) (args .tally)) (w .0 .left) ∙ sym (ap (λ (x : Bool). told x fed-now (args .tally)) (w .0 .left)),
+      ap (λ (o : Outcome). o .after) (w .5 ∙ w .1 .ensures .0) ∙ rw (inv .4) (next-box (args .b) all (args .tally) (args .prices .now) (args .sheet .now) s e passed n enough (inv .3) (inv .6)),
+      w .6 ∙ inv .5 ∙ ap (λ (x : Bool). told x (rowsFrom (args .b) (take passed bars)) (args .tally)) (w .0 .left) ∙ sym (ap (λ (x : Bool). told x fed-now (args .tally)) (w .0 .left)),
       sheet,
     ))
     (c .if1 .came)
@@ -199,13 +199,13 @@ same-length c = search needs
 returns-2 : tie.Need-returns-2 Inv-loop μ-loop
 unfolding talliedSheet
 returns-2 c =
-    let at-loop = c .before in
+    let at-loop = c .before .before in
     let args = startOf (at-loop .before) .args in
     let inv = at-loop .loop .inv in
     let f = lent (args .prices .now) (args .sheet .now) in
     let bars = barsOf (args .prices .now) in
     let e = accepted (at-loop .before) in
-    let done = inv .2 (c .loop-test .left) in
+    let done = inv .2 (c .before .loop-test .left) in
     let whole = take-all (at-loop .loop .done) bars (omega (arith, at-loop .before .count .ensures)) in
     (rw (tallied-accepted (args .b) (args .tally) f e, inv .4, inv .5, whole), rw (e, fed-sheet (args .b) (args .prices .now) (args .sheet .now) (accepted-plain (args .b) (args .tally) f e), inv .6, whole))
 
