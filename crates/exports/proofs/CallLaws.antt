@@ -8,11 +8,8 @@ use lib.ListN.{length, getD, take, drop, length-drop}
 use lib.Seq.{drop-cons}
 use lib.Ieee.{Float}
 use Rattle.recognisers.specs.Number.{rowBytes, mostBars}
-use Rattle.recognisers.specs.Threshold.{Thresholds}
 use Rattle.recognisers.specs.declared.call.Refusal.{Refusal}
 use Rattle.recognisers.specs.declared.call.Verdict.the-variants.{Accepted, Denied}
-use Rattle.recognisers.specs.Refusal.{refusalNumber, verdictNumber}
-use Rattle.measures.specs.Bar.{overlay}
 use Rattle.terms.specs.declared.layers.Layer.{Layer}
 use Rattle.terms.specs.declared.layers.Taken.{Taken}
 use Rattle.terms.specs.History.{Call, Run, Shut, sheetIn as lentSheet, called, sheetAfter}

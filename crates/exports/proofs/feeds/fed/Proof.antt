@@ -9,7 +9,7 @@ use Rattle.recognisers.specs.Refusal.{leaves}
 use Rattle.bar_box.specs.Box.{freshBox, takenIn, feedVerdict, fedOf, sheetOf}
 use Rattle.bar_box.proofs.PartLaws.{rowsFrom}
 use Rattle.tallies.specs.Tally.{freshTally}
-use Rattle.tallies.specs.Feed.{lent, talliedOf, talliedSheet}
+use Rattle.tallies.specs.Feed.{talliedOf, talliedSheet}
 use Rattle.tallies.proofs.FeedLaws.{plain-verdict}
 use Rattle.tallies.proofs.RowLaws.{fresh-adds}
 use Rattle.exports.proofs.feeds.fed.Statement.{statement}

@@ -24,7 +24,7 @@ use Rattle.bar_box.proofs.PartLaws.{rowsFrom, fed-sheet}
 use Rattle.tallies.specs.declared.table.TallyRow.{TallyRow}
 use Rattle.tallies.specs.declared.feeds.Tallied.{Tallied}
 use Rattle.tallies.specs.Tally.{counted}
-use Rattle.tallies.specs.Feed.{lent, verdictWith, talliedOf, talliedSheet}
+use Rattle.tallies.specs.Feed.{lent, verdictWith, talliedSheet}
 use Rattle.tallies.proofs.FeedLaws.{accepted-plain, tallied-refused, tallied-accepted}
 use Rattle.tallies.proofs.RowLaws.{none-counted}
 use Rattle.exports.proofs.PartLaws.{length-written, next-box, next-sheet, next-tallied, next-tallied-sheet}

@@ -1,5 +1,5 @@
 -- The feeds leave what one feed does; a refusal leaves the numbers, otherwise those of its table are written. Assumes nothing.
-use mathlib.Core.Path.{_≡_, ap, sym, _∙_}
+use mathlib.Core.Path.{ap, sym, _∙_}
 use mathlib.Core.Logic.{⊎-elim}
 use borrow.Author.Needs.{needs}
 use Rattle.recognisers.specs.Refusal.{verdictNumber}

@@ -1,5 +1,5 @@
 -- The loop's invariant: the sheet and the answers as they stand, and then what the calls that are left make of them. Assumes nothing.
-use Prim.Native.Nat.{ℕ, _+_, _-_, _≤_, _<_}
+use Prim.Native.Nat.{ℕ, _+_, _-_, _*_, _≤_, _<_}
 use mathlib.Core.Path.{_≡_, refl, ap, sym, _∙_}
 use mathlib.Core.List.{List, [], _++_}
 use native.Mathlib.Omega.{arith}
@@ -9,7 +9,8 @@ use lib.ListN.{length, take, drop, drop-of-length-le, take-append-drop}
 use lib.Seq.{take-all}
 use Rattle.measures.specs.Bar.{overlay}
 use Rattle.measures.proofs.Overlay.{overlay-none}
-use Rattle.terms.specs.declared.layers.Taken.{Taken}
+use Rattle.recognisers.specs.Number.{rowBytes, mostBars}
+use Rattle.exports.specs.Numbers.{writtenTo}
 use Rattle.exports.specs.TermCalls.{answersOf, sheetThrough}
 use Rattle.exports.proofs.ListLaws.{overlay-step}
 use Rattle.exports.proofs.CallLaws.{rows-at, sheet-next, answers-next}
@@ -19,7 +20,7 @@ use Rattle.exports.proofs.term_calls.make_calls.Tie as tie
 abbrev Inv-loop : tie.InvT-loop
 Inv-loop sizes prices stamps sheet₀ answers₀ layer₀ p₀ s₀ at₀ i₀ sheet answers layer p s at i = (i ≤ length sizes) × (p ≤ length prices) × (s ≤ length stamps) × (at ≤ length sheet) × (length sheet ≡ length sheet₀) × (length answers ≡ length answers₀)
     × (sheetThrough layer₀ prices stamps sheet₀ sizes ≡ take at sheet ++ sheetThrough layer (drop p prices) (drop s stamps) (drop at sheet) (drop i sizes))
-    × (overlay answers₀ 0 (take (length answers₀) (answersOf layer₀ prices stamps sheet₀ sizes)) ≡ overlay answers i (take (length answers - i) (answersOf layer (drop p prices) (drop s stamps) (drop at sheet) (drop i sizes))))
+    × (writtenTo answers₀ (answersOf layer₀ prices stamps sheet₀ sizes) ≡ overlay answers i (take (length answers - i) (answersOf layer (drop p prices) (drop s stamps) (drop at sheet) (drop i sizes))))
 
 abbrev μ-loop : tie.MeasureT-loop
 μ-loop sizes prices stamps sheet₀ answers₀ layer₀ p₀ s₀ at₀ i₀ sheet answers layer p s at i = length sizes - i
@@ -65,89 +66,37 @@ least-requires-2 c κs = search needs
 make-call-requires : tie.Need-make-call-requires Inv-loop μ-loop
 make-call-requires c κs = search needs
 
-put-answer-requires : tie.Need-put-answer-requires Inv-loop μ-loop
-put-answer-requires c κs =
-    let made = c .before .before .before in
-    let inside = made .before .before .before .before .before in
+-- a call fills no more rows than a box may count and the sheet has room for
+fit : (c : tie.After-make-call Inv-loop μ-loop) → let at-loop = c .before .before .before .before .before .before in
+    (c .make-call .result .rows ≤ mostBars) × (at-loop .loop .at + rowBytes * c .make-call .result .rows ≤ length (at-loop .loop .sheet))
+fit c =
+    let inside = c .before .before .before .before .before in
     let at-loop = inside .before in
-    let start = at-loop .before .before .before .before .before .before in
-    let args = start .args in
-    let ps = args .prices .now in
-    let ss = args .stamps .now in
-    let sizes = args .sizes .now in
-    let inv = at-loop .loop .inv in
-    let i = at-loop .loop .i in
-    let within : i < length sizes = inside .loop-test .taken in
-    let fit = rows-at (at-loop .loop .layer) ps ss (at-loop .loop .sheet) sizes (at-loop .loop .p) (at-loop .loop .s) (at-loop .loop .at) i within (inv .3) in
-    let rows = ap (λ (t : Taken). t .rows) (made .make-call .ensures .0) in
-    omega (arith, fit .0)
+    let args = at-loop .before .before .before .before .before .before .args in
+    rw (c .make-call .ensures .0)
+    (rows-at (at-loop .loop .layer) (args .prices .now) (args .stamps .now) (at-loop .loop .sheet) (args .sizes .now) (at-loop .loop .p) (at-loop .loop .s) (at-loop .loop .at) (at-loop .loop .i) (inside .loop-test .taken) (at-loop .loop .inv .3))
+
+put-answer-requires : tie.Need-put-answer-requires Inv-loop μ-loop
+put-answer-requires c κs = fit (c .before .before .before) .0
 
 mul-at : tie.Need-mul-at Inv-loop μ-loop
-mul-at c =
-    let made = c .before .before .before .before .before .before .before in
-    let inside = made .before .before .before .before .before in
-    let at-loop = inside .before in
-    let start = at-loop .before .before .before .before .before .before in
-    let args = start .args in
-    let ps = args .prices .now in
-    let ss = args .stamps .now in
-    let sizes = args .sizes .now in
-    let inv = at-loop .loop .inv in
-    let i = at-loop .loop .i in
-    let within : i < length sizes = inside .loop-test .taken in
-    let fit = rows-at (at-loop .loop .layer) ps ss (at-loop .loop .sheet) sizes (at-loop .loop .p) (at-loop .loop .s) (at-loop .loop .at) i within (inv .3) in
-    let rows = ap (λ (t : Taken). t .rows) (made .make-call .ensures .0) in
-    omega (arith, fit .0)
+mul-at c = omega (arith, fit (c .before .before .before .before .before .before .before) .0)
 
 add-at : tie.Need-add-at Inv-loop μ-loop
 add-at c =
     let made = c .before .before .before .before .before .before .before in
-    let inside = made .before .before .before .before .before in
-    let at-loop = inside .before in
+    let at-loop = made .before .before .before .before .before .before in
     let start = at-loop .before .before .before .before .before .before in
-    let args = start .args in
-    let ps = args .prices .now in
-    let ss = args .stamps .now in
-    let sizes = args .sizes .now in
-    let inv = at-loop .loop .inv in
-    let i = at-loop .loop .i in
-    let within : i < length sizes = inside .loop-test .taken in
-    let fit = rows-at (at-loop .loop .layer) ps ss (at-loop .loop .sheet) sizes (at-loop .loop .p) (at-loop .loop .s) (at-loop .loop .at) i within (inv .3) in
-    let rows = ap (λ (t : Taken). t .rows) (made .make-call .ensures .0) in
-    omega (arith, fit .1, fit .0, start .good .1 .1 .1 .1 .0)
+    omega (arith, fit made .1, fit made .0, at-loop .loop .inv .4, start .good .1 .1 .1 .1 .0)
 
 add-i : tie.Need-add-i Inv-loop μ-loop
 add-i c =
-    let made = c .before .before .before .before .before .before .before .before in
-    let inside = made .before .before .before .before .before in
-    let at-loop = inside .before in
-    let start = at-loop .before .before .before .before .before .before in
-    let args = start .args in
-    let ps = args .prices .now in
-    let ss = args .stamps .now in
-    let sizes = args .sizes .now in
-    let inv = at-loop .loop .inv in
-    let i = at-loop .loop .i in
-    let within : i < length sizes = inside .loop-test .taken in
-    let fit = rows-at (at-loop .loop .layer) ps ss (at-loop .loop .sheet) sizes (at-loop .loop .p) (at-loop .loop .s) (at-loop .loop .at) i within (inv .3) in
-    let rows = ap (λ (t : Taken). t .rows) (made .make-call .ensures .0) in
+    let inside = c .before .before .before .before .before .before .before .before .before .before .before .before .before in
     omega arith
 
 loop-less : tie.Need-loop-less Inv-loop μ-loop
 loop-less c =
-    let made = c .before .before .before .before .before .before .before .before in
-    let inside = made .before .before .before .before .before in
-    let at-loop = inside .before in
-    let start = at-loop .before .before .before .before .before .before in
-    let args = start .args in
-    let ps = args .prices .now in
-    let ss = args .stamps .now in
-    let sizes = args .sizes .now in
-    let inv = at-loop .loop .inv in
-    let i = at-loop .loop .i in
-    let within : i < length sizes = inside .loop-test .taken in
-    let fit = rows-at (at-loop .loop .layer) ps ss (at-loop .loop .sheet) sizes (at-loop .loop .p) (at-loop .loop .s) (at-loop .loop .at) i within (inv .3) in
-    let rows = ap (λ (t : Taken). t .rows) (made .make-call .ensures .0) in
+    let inside = c .before .before .before .before .before .before .before .before .before .before .before .before .before in
     omega arith
 
 loop-again : tie.Need-loop-again Inv-loop μ-loop
@@ -163,8 +112,6 @@ loop-again c =
     let inv = at-loop .loop .inv in
     let i = at-loop .loop .i in
     let within : i < length sizes = inside .loop-test .taken in
-    let fit = rows-at (at-loop .loop .layer) ps ss (at-loop .loop .sheet) sizes (at-loop .loop .p) (at-loop .loop .s) (at-loop .loop .at) i within (inv .3) in
-    let rows = ap (λ (t : Taken). t .rows) (made .make-call .ensures .0) in
     let answered = c .before .before .before .before in
     let l = at-loop .loop .layer in
     let sheet = at-loop .loop .sheet in
@@ -182,7 +129,7 @@ loop-again c =
       omega arith,
       omega (arith, p-end),
       omega (arith, s-end),
-      rw same-sheet (omega (arith, fit .1)),
+      rw same-sheet (omega (arith, fit made .1)),
       same-sheet ∙ inv .4,
       same-answers ∙ inv .5,
       inv .6 ∙ rw (out .1, out .0, p-end, s-end) next-sheet,
