@@ -313,13 +313,7 @@ fn check_ordinal(
     look: Look,
 ) -> Result<Ordinal, String> {
     let expected = Ordinal::told(trial.bars.len(), look);
-    let ours = ask(
-        "jcc_look_ordinal",
-        exports::look_ordinal,
-        rows,
-        trial,
-        look,
-    )?;
+    let ours = ask("jcc_look_ordinal", exports::look_ordinal, rows, trial, look)?;
     let plain = ordinal::of_plain_box(plain, look);
     for (who, got) in [("jcc_look_ordinal", ours), ("look at the plain box", plain)] {
         if got != expected.number() {
