@@ -171,7 +171,7 @@ fn exported(bytes: &[u8], most: usize, sheet: &mut [u8]) {
     for (count, row) in (1..=bytes.len() / BAR_BYTES).zip(rows_of(sheet)) {
         let from = count.saturating_sub(most);
         let history = &bytes[from * BAR_BYTES..count * BAR_BYTES];
-        write(row, |k| export::label(k as u32, 1, &t, history));
+        write(row, |k| label_export::label(k as u32, 1, &t, history));
     }
 }
 
@@ -181,7 +181,7 @@ fn plain_box(size: usize, prices: &[f64], sheet: &mut [u8]) {
 }
 
 fn fed(size: usize, prices: &[f64], sheet: &mut [u8]) {
-    feed(feeds_export::feed, size, prices, sheet);
+    feed(exports::feed, size, prices, sheet);
 }
 
 /// The counts must be those of the tally.
@@ -189,6 +189,6 @@ fn tallied(size: usize, prices: &[f64], tally: &Tally, sheet: &mut [u8]) {
     let mut counts = [0; TALLY_COUNTS];
     let t = thresholds();
     let sizes = sizes(size, prices);
-    accepted(tally_export::tally(&t, &sizes, prices, sheet, &mut counts));
+    accepted(exports::tally(&t, &sizes, prices, sheet, &mut counts));
     assert_eq!(counts, tally.numbers(), "the counts are the plain port's");
 }

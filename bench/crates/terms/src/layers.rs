@@ -20,7 +20,7 @@ pub const LAYERS: [Layer; 2] = [
 ];
 
 fn exported(list: &List, sheet: &mut [u8], answers: &mut [u32]) -> u32 {
-    terms_export::terms(
+    exports::terms(
         list.thresholds,
         list.minutes,
         list.hours,

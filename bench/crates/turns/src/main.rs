@@ -1,4 +1,4 @@
-//! Two versions of the library of feeds in one program and one run, in turn, over two walks.
+//! Two versions of `jcc_feed` in one program and one run, in turn, over two walks.
 //!
 //!     turns                           prints how many bars a second each of them labels
 //!     turns VERSION WALK SIZE BARS    feeds one of them a walk's first bars, to count instructions

@@ -108,7 +108,7 @@ impl Judge {
     fn answers(&mut self, k: usize, offset: u32, case: &Case) -> Answers {
         let t = &case.thresholds;
         Answers {
-            ours: export::label(k as u32, offset, t, self.bytes.slice()),
+            ours: label_export::label(k as u32, offset, t, self.bytes.slice()),
             port: port::label(k, offset, t, &case.bars).number(),
             repository: self.oracle.verdict(k, offset),
         }
@@ -161,7 +161,7 @@ impl Judge {
         }
         for offset in &case.offsets {
             for k in recognisers {
-                let call = |bytes| export::label(*k as u32, *offset, &case.thresholds, bytes);
+                let call = |bytes| label_export::label(*k as u32, *offset, &case.thresholds, bytes);
                 let answers = [("quiet", call(&quiet)), ("signalling", call(&loud))];
                 if answers[0].1 != answers[1].1 {
                     let found = difference(*k as u32, *offset, case, &answers);
@@ -183,7 +183,7 @@ impl Judge {
         bytes: &[u8],
         bars: &[Bar],
     ) -> Result<(), Difference> {
-        let ours = export::label(recogniser, offset, t, bytes);
+        let ours = label_export::label(recogniser, offset, t, bytes);
         let expected = match port::refusal(recogniser, offset, t, bytes.len()) {
             Some(refusal) => REFUSED + refusal,
             None => {

@@ -60,7 +60,7 @@ impl State {
         let ([recogniser, offset], _) = words.as_chunks::<4>() else {
             return Err("a call is two words".to_string());
         };
-        Ok(export::label(
+        Ok(label_export::label(
             u32::from_le_bytes(*recogniser),
             u32::from_le_bytes(*offset),
             &self.thresholds,

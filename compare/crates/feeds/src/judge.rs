@@ -248,7 +248,7 @@ impl Judge {
             Some(refusal) => REFUSED + refusal,
             None => self.looked(rows, trial, look)?,
         };
-        let ours = ask("jcc_look", feeds_export::look, rows, trial, look)?;
+        let ours = ask("jcc_look", exports::look, rows, trial, look)?;
         let plain = number(plain.look(recogniser, offset));
         for (who, got) in [("jcc_look", ours), ("look at the plain box", plain)] {
             if got != expected {
@@ -313,13 +313,7 @@ fn check_ordinal(
     look: Look,
 ) -> Result<Ordinal, String> {
     let expected = Ordinal::told(trial.bars.len(), look);
-    let ours = ask(
-        "jcc_look_ordinal",
-        feeds_export::look_ordinal,
-        rows,
-        trial,
-        look,
-    )?;
+    let ours = ask("jcc_look_ordinal", exports::look_ordinal, rows, trial, look)?;
     let plain = ordinal::of_plain_box(plain, look);
     for (who, got) in [("jcc_look_ordinal", ours), ("look at the plain box", plain)] {
         if got != expected.number() {
@@ -362,14 +356,14 @@ fn check_feeds(rows: &[u8], trial: &Trial) -> Result<(), String> {
 fn check_feed(rows: &[u8], trial: &Trial, prices: &[f64]) -> Result<(), String> {
     let mut sheet = Sheet::new(trial.sheet_len());
     let t = &trial.thresholds;
-    accepted(feeds_export::feed(t, &trial.sizes, prices, sheet.bytes()))?;
+    accepted(exports::feed(t, &trial.sizes, prices, sheet.bytes()))?;
     sheet.check(rows)
 }
 
 fn check_tally(rows: &[u8], trial: &Trial, prices: &[f64]) -> Result<(), String> {
     let mut sheet = Sheet::new(trial.sheet_len());
     let mut counts = Counts::new(&tallies::fresh(trial.counts));
-    accepted(tally_export::tally(
+    accepted(exports::tally(
         &trial.thresholds,
         &trial.sizes,
         prices,
@@ -408,7 +402,7 @@ pub fn bars_to_wrong_row(trial: &Trial) -> usize {
     let mut ours = vec![0; trial.sheet_len()];
     let mut plain = ours.clone();
     let (t, sizes, prices) = (&trial.thresholds, &trial.sizes, trial.prices());
-    feeds_export::feed(t, sizes, &prices, &mut ours);
+    exports::feed(t, sizes, &prices, &mut ours);
     let _ = port::feed_in_parts(t, sizes, &prices, &mut plain);
     let mut rows = ours.chunks(ROW_BYTES).zip(plain.chunks(ROW_BYTES));
     let wrong = rows.position(|(a, b)| a != b);

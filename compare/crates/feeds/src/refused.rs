@@ -272,14 +272,14 @@ impl Call<'_> {
     fn make(&self, sheet: &mut [u8], counts: &mut [u32]) -> u32 {
         let (t, sizes, prices) = (self.thresholds, self.sizes, self.prices);
         match self.export {
-            Export::Feed => feeds_export::feed(t, sizes, prices, sheet),
+            Export::Feed => exports::feed(t, sizes, prices, sheet),
             Export::Look(Look { recogniser, offset }) => {
-                feeds_export::look(recogniser, offset, t, sizes, prices, sheet)
+                exports::look(recogniser, offset, t, sizes, prices, sheet)
             }
             Export::Ordinal(Look { recogniser, offset }) => {
-                feeds_export::look_ordinal(recogniser, offset, t, sizes, prices, sheet)
+                exports::look_ordinal(recogniser, offset, t, sizes, prices, sheet)
             }
-            Export::Tally(_) => tally_export::tally(t, sizes, prices, sheet, counts),
+            Export::Tally(_) => exports::tally(t, sizes, prices, sheet, counts),
         }
     }
 

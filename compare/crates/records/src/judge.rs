@@ -94,7 +94,7 @@ impl Judge {
     fn answers(&self, k: u32, offset: u32, t: &Thresholds) -> Answers {
         Answers {
             records: label_bars(k, offset, t, self.history.records()),
-            bytes: export::label(k, offset, t, &self.history.bytes),
+            bytes: label_export::label(k, offset, t, &self.history.bytes),
         }
     }
 

@@ -99,7 +99,7 @@ impl Judge {
 }
 
 fn export(trial: &Trial, sheet: &mut [u8], answers: &mut [u32]) -> u32 {
-    terms_export::terms(
+    exports::terms(
         &trial.thresholds,
         trial.minutes,
         &trial.hours,
@@ -123,7 +123,7 @@ fn one_feed(trial: &Trial, told: &Told) -> Result<Vec<u8>, String> {
     let t = &trial.thresholds;
     port::feed_in_parts(t, &[], &prices, &mut rows)
         .map_err(|refusal| format!("one feed to the plain box: refusal {refusal}"))?;
-    let refusal = feeds_export::feed(t, &[], &prices, &mut ours);
+    let refusal = exports::feed(t, &[], &prices, &mut ours);
     if refusal != 0 {
         return Err(format!("one feed by jcc_feed: refusal {refusal}"));
     }

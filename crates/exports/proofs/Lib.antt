@@ -1,0 +1,5 @@
+-- The laws that the functions' proofs cite.
+pub mod CallLaws
+pub mod ListLaws
+pub mod NumberLaws
+pub mod PartLaws

@@ -1,2 +1,0 @@
--- The exports as definitions.
-pub mod Result

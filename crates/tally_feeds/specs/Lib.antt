@@ -1,2 +1,0 @@
--- The export as definitions.
-pub mod Numbers

@@ -1,2 +1,0 @@
--- What the export over lists of calls answers.
-pub mod Calls
