@@ -5,8 +5,7 @@ use lib.ListN.{length, getD, take, drop}
 use lib.Ieee.{Float}
 use Rattle.recognisers.specs.Number.{rowBytes}
 use Rattle.recognisers.specs.Refusal.{refusalNumber, leaves}
-use Rattle.recognisers.specs.declared.call.Verdict.{Verdict}
-use Rattle.recognisers.specs.declared.call.Verdict.the-variants.{Accepted, Denied}
+use Rattle.recognisers.specs.declared.call.Verdict.{Verdict, the-variants.Accepted, the-variants.Denied}
 use Rattle.trading_hours.specs.declared.hours.DayWindow.{DayWindow}
 use Rattle.trading_hours.specs.declared.hours.Hours.{Hours}
 use Rattle.trading_hours.specs.Hours.{mostWindows, windowFrom, hoursWith}

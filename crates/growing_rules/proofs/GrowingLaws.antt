@@ -13,8 +13,7 @@ use Rattle.measures.specs.Bar.{Bar, bodyOf}
 use Rattle.measures.specs.Window.{newest, windowOf}
 use Rattle.measures.proofs.WindowLaws.{window-reach}
 use Rattle.measures.proofs.Order.{lt-nan}
-use Rattle.rule_types.specs.declared.label.Label.{Label}
-use Rattle.rule_types.specs.declared.label.Label.the-variants.{Other}
+use Rattle.rule_types.specs.declared.label.Label.{Label, the-variants.Other}
 use Rattle.rule_types.specs.declared.label.Pair.{Pair}
 use Rattle.rule_types.specs.Label.{codeOf, pairOf, pairA}
 use Rattle.growing_rules.specs.GrowingRule.{sizeLabel, firstMatch, threeMethods, sanFaV20221118, tower, taXing, insertOf, bodiesDown, bodiesUp, lastButOne, bodiesKnown}

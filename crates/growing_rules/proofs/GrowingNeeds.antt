@@ -18,8 +18,7 @@ use Rattle.measures.proofs.Order.{max-second, min-second, both-ways}
 use Rattle.measures.proofs.FoldLaws.{known-highest, known-lowest}
 use Rattle.rule_types.specs.declared.label.Label.the-variants.{Other}
 use Rattle.growing_rules.specs.declared.Ends.{Ends}
-use Rattle.growing_rules.specs.declared.Shape.{Shape}
-use Rattle.growing_rules.specs.declared.Shape.the-variants.{ThreeMethods, Tower}
+use Rattle.growing_rules.specs.declared.Shape.{Shape, the-variants.ThreeMethods, the-variants.Tower}
 use Rattle.growing_rules.specs.declared.middle.Middle.{Middle}
 use Rattle.growing_rules.specs.GrowingRule.{firstMatch, innerOf}
 use Rattle.growing_rules.specs.Middle.{checkOf, middleOf, entered, middleAt, mayRise, mayFall, mayBeTop, mayBeBottom, mayBe, beyond, noMatch, foundOf, searchedOf}

@@ -5,16 +5,14 @@ use mathlib.Core.Bool.{Bool, true, false, cond, _&&_, _||_, true≢false, and-fa
 use mathlib.Core.List.{List, [], _∷_}
 use lib.Ieee.{Float, lt, isNan, div, ofInt, ofBits}
 use Rattle.measures.specs.Bar.{Bar}
-use Rattle.measures.specs.declared.folds.Column.{Column}
-use Rattle.measures.specs.declared.folds.Column.the-variants.{Close, High, Low}
+use Rattle.measures.specs.declared.folds.Column.{Column, the-variants.Close, the-variants.High, the-variants.Low}
 use Rattle.measures.specs.Price.{maxOf, minOf}
 use Rattle.measures.specs.Fold.{columnOf, highestOf, lowestOf, sumOf, sizeOf, varianceOf, everyOf, extremesOf}
 use Rattle.measures.proofs.Order.{lt-asym, known-left, known-right, max-both, min-both}
 use Rattle.measures.proofs.FoldLaws.{every-above, every-below}
 use Rattle.rule_types.specs.declared.label.Label.the-variants.{Other, RisingThreeMethods, FallingThreeMethods, Bottom, Top}
 use Rattle.rule_types.specs.Number.{aHalf}
-use Rattle.growing_rules.specs.declared.Shape.{Shape}
-use Rattle.growing_rules.specs.declared.Shape.the-variants.{ThreeMethods, Tower}
+use Rattle.growing_rules.specs.declared.Shape.{Shape, the-variants.ThreeMethods, the-variants.Tower}
 use Rattle.growing_rules.specs.declared.middle.Middle.{Middle}
 use Rattle.growing_rules.specs.GrowingRule.{firstOf, lastOf, innerOf, risesOf, fallsOf, threeMethods, endsLead, topOf, bottomOf, tower}
 use Rattle.growing_rules.specs.Middle.{checkOf, middleOf, mayRise, mayFall, mayBeTop, mayBeBottom, mayBe}

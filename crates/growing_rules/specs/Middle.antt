@@ -17,8 +17,7 @@ use Rattle.rule_types.specs.Label.{pairA}
 use Rattle.growing_rules.specs.declared.Ends.{Ends}
 use Rattle.growing_rules.specs.declared.Growing.{Growing}
 use Rattle.growing_rules.specs.declared.Leaders.{Leaders}
-use Rattle.growing_rules.specs.declared.Shape.{Shape}
-use Rattle.growing_rules.specs.declared.Shape.the-variants.{ThreeMethods, Tower}
+use Rattle.growing_rules.specs.declared.Shape.{Shape, the-variants.ThreeMethods, the-variants.Tower}
 use Rattle.growing_rules.specs.declared.middle.Middle.{Middle}
 use Rattle.growing_rules.specs.GrowingRule.{firstMatch, innerOf, threeMethods, bodiesDown, bodiesKnown, tower}
 

@@ -21,8 +21,7 @@ use Rattle.bar_box.proofs.SheetLaws.{length-row, rows-one, rows-newest}
 use Rattle.bar_box.proofs.FeedSteps.{accepts, count-after, kept-after, verdict-step, box-step}
 use Rattle.bar_box.proofs.FeedLists.{at-start}
 use Rattle.bar_box.proofs.Demand3.{standard-valid, fresh-none}
-use Rattle.text.specs.declared.line_text.Line.{Line}
-use Rattle.text.specs.declared.line_text.Line.the-variants.{Prices, BadShape, BadPrice}
+use Rattle.text.specs.declared.line_text.Line.{Line, the-variants.Prices, the-variants.BadShape, the-variants.BadPrice}
 use Rattle.text.specs.LineText.{lineOf}
 use Rattle.text.specs.Lines.{linesOf}
 use Rattle.label_lines.specs.declared.output.Stop.the-variants.{By, Price}

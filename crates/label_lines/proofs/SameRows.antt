@@ -8,8 +8,7 @@ use lib.Dec.{ltb}
 use lib.ListN.{length}
 use Rattle.measures.specs.Bar.{Bar}
 use Rattle.recognisers.specs.Number.{mostBars}
-use Rattle.text.specs.declared.line_text.Line.{Line}
-use Rattle.text.specs.declared.line_text.Line.the-variants.{Prices, BadShape, BadPrice}
+use Rattle.text.specs.declared.line_text.Line.{Line, the-variants.Prices, the-variants.BadShape, the-variants.BadPrice}
 use Rattle.text.specs.LineText.{lineOf}
 use Rattle.text.specs.Lines.{linesOf}
 use Rattle.label_lines.specs.History.{newestLines, linesPrint, historyPrints}

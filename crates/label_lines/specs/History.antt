@@ -9,8 +9,7 @@ use Rattle.recognisers.specs.declared.call.Refusal.the-variants as refusal
 use Rattle.recognisers.specs.Number.{mostBars}
 use Rattle.recognisers.specs.Threshold.{standardSet}
 use Rattle.bar_box.specs.Sheet.{rowOf}
-use Rattle.text.specs.declared.line_text.Line.{Line}
-use Rattle.text.specs.declared.line_text.Line.the-variants.{Prices, BadShape, BadPrice}
+use Rattle.text.specs.declared.line_text.Line.{Line, the-variants.Prices, the-variants.BadShape, the-variants.BadPrice}
 use Rattle.label_lines.specs.declared.output.Stop.the-variants.{By, Price}
 use Rattle.label_lines.specs.Output.{rowLines, refusalLine}
 

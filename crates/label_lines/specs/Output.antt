@@ -8,20 +8,17 @@ use Rattle.io.specs.Digits.{digits}
 use Rattle.measures.specs.Bar.{Bar, pricesOf}
 use Rattle.recognisers.specs.declared.call.Refusal.{Refusal}
 use Rattle.recognisers.specs.declared.call.Refusal.the-variants as refusal
-use Rattle.recognisers.specs.declared.call.Verdict.{Verdict}
-use Rattle.recognisers.specs.declared.call.Verdict.the-variants.{Accepted, Denied}
+use Rattle.recognisers.specs.declared.call.Verdict.{Verdict, the-variants.Accepted, the-variants.Denied}
 use Rattle.recognisers.specs.Number.{recognisers, rowBytes}
 use Rattle.recognisers.specs.Refusal.{refusalNumber}
 use Rattle.recognisers.specs.Threshold.{standardSet}
 use Rattle.bar_box.specs.declared.boxes.BarBox.{BarBox}
 use Rattle.bar_box.specs.Box.{freshBox, fedOf, sheetOf}
-use Rattle.text.specs.declared.line_text.Line.{Line}
-use Rattle.text.specs.declared.line_text.Line.the-variants.{Prices, BadShape, BadPrice}
+use Rattle.text.specs.declared.line_text.Line.{Line, the-variants.Prices, the-variants.BadShape, the-variants.BadPrice}
 use Rattle.label_texts.specs.LabelText.{bytesOf}
 use Rattle.text.specs.LineText.{comma, lineOf}
 use Rattle.text.specs.Lines.{lineFeed, linesOf}
-use Rattle.label_lines.specs.declared.output.Stop.{Stop}
-use Rattle.label_lines.specs.declared.output.Stop.the-variants.{Going, By, Price}
+use Rattle.label_lines.specs.declared.output.Stop.{Stop, the-variants.Going, the-variants.By, the-variants.Price}
 
 -- ---- lines of output
 

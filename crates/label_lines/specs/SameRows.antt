@@ -5,8 +5,7 @@ use mathlib.Core.List.{List, [], _++_, map}
 use mathlib.Core.Logic.{_⊎_}
 use mathlib.Core.Path.{_≡_}
 use Rattle.recognisers.specs.declared.call.Refusal.the-variants as refusal
-use Rattle.text.specs.declared.line_text.Line.{Line}
-use Rattle.text.specs.declared.line_text.Line.the-variants.{Prices, BadShape, BadPrice}
+use Rattle.text.specs.declared.line_text.Line.{Line, the-variants.Prices, the-variants.BadShape, the-variants.BadPrice}
 use Rattle.text.specs.LineText.{lineOf}
 use Rattle.text.specs.Lines.{linesOf}
 use Rattle.label_lines.specs.declared.output.Stop.the-variants.{By, Price}

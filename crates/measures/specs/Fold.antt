@@ -5,10 +5,8 @@ use lib.IntN.{pos}
 use lib.ListN.{length}
 use lib.Ieee.{Float, binary64, inf, ofInt, add, sub, mul, div, le}
 use Rattle.prices.specs.declared.bars.Bar.{Bar}
-use Rattle.measures.specs.declared.folds.Column.{Column}
-use Rattle.measures.specs.declared.folds.Column.the-variants.{Open, Close, High, Low}
-use Rattle.measures.specs.declared.folds.Fold.{Fold}
-use Rattle.measures.specs.declared.folds.Fold.the-variants.{Highest, Lowest, Sum, Squares}
+use Rattle.measures.specs.declared.folds.Column.{Column, the-variants.Open, the-variants.Close, the-variants.High, the-variants.Low}
+use Rattle.measures.specs.declared.folds.Fold.{Fold, the-variants.Highest, the-variants.Lowest, the-variants.Sum, the-variants.Squares}
 use Rattle.measures.specs.declared.folds.Extremes.{Extremes}
 use Rattle.prices.specs.Price.{zero, aQuarter, maxOf, minOf, squareOf}
 

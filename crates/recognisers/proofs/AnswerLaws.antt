@@ -8,10 +8,8 @@ use Rattle.measures.specs.Bar.{Bar}
 use Rattle.rule_types.specs.declared.label.Pair.{Pair}
 use Rattle.rule_table.specs.declared.thresholds.Thresholds.{Thresholds}
 use Rattle.rule_table.specs.Table.{pairAt, codesOf}
-use Rattle.recognisers.specs.declared.call.Verdict.{Verdict}
-use Rattle.recognisers.specs.declared.call.Verdict.the-variants.{Accepted, Denied}
-use Rattle.recognisers.specs.declared.call.Answer.{Answer}
-use Rattle.recognisers.specs.declared.call.Answer.the-variants.{Labels}
+use Rattle.recognisers.specs.declared.call.Verdict.{Verdict, the-variants.Accepted, the-variants.Denied}
+use Rattle.recognisers.specs.declared.call.Answer.{Answer, the-variants.Labels}
 use Rattle.recognisers.specs.Refusal.{verdictNumber, leaves, answerTo, plainVerdict, plainAnswer, plainNumber, plainCodes, refusalIn, codesIn}
 
 values-in : (v : Verdict) (pair : Pair)

@@ -7,8 +7,7 @@ use lib.Ieee.{Float, binary64, ofBits}
 use Rattle.measures.specs.Bar.{barsOf}
 use Rattle.rule_table.specs.declared.thresholds.Thresholds.{Thresholds}
 use Rattle.rule_types.specs.declared.label.Pair.{Pair}
-use Rattle.recognisers.specs.declared.call.Answer.{Answer}
-use Rattle.recognisers.specs.declared.call.Answer.the-variants.{Labels, Refused}
+use Rattle.recognisers.specs.declared.call.Answer.{Answer, the-variants.Labels, the-variants.Refused}
 use Rattle.rule_types.specs.Label.{codeOf}
 use Rattle.recognisers.specs.Refusal.{refusalNumber, plainAnswer}
 

@@ -6,8 +6,7 @@ use lib.Dec.{eqb}
 use lib.ListN.{length, getD}
 use Rattle.recognisers.specs.Export.{barBytes}
 use Rattle.replay.specs.Hex.{payloadOf}
-use Rattle.replay.specs.declared.command.Command.{Command}
-use Rattle.replay.specs.declared.command.Command.the-variants.{New, Bar, Thresholds, Call, Bad}
+use Rattle.replay.specs.declared.command.Command.{Command, the-variants.New, the-variants.Bar, the-variants.Thresholds, the-variants.Call, the-variants.Bad}
 
 -- how many bytes the thresholds and a call are
 abbrev pub thresholdsSize : ℕ

@@ -10,8 +10,7 @@ use Rattle.recognisers.specs.Export.{barBytes}
 use Rattle.replay.specs.Command.{commandOf}
 use Rattle.replay.specs.Hex.{payloadOf}
 use Rattle.replay.specs.Thresholds.{thresholdsOf}
-use Rattle.replay.specs.declared.command.Command.{Command}
-use Rattle.replay.specs.declared.command.Command.the-variants.{New, Bar, Thresholds, Call, Bad}
+use Rattle.replay.specs.declared.command.Command.{Command, the-variants.New, the-variants.Bar, the-variants.Thresholds, the-variants.Call, the-variants.Bad}
 use Rattle.replay.specs.declared.session.Session.{Session}
 use Rattle.rule_table.specs.declared.thresholds.Thresholds as declared
 

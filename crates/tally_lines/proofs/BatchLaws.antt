@@ -10,8 +10,7 @@ use lib.ListN.{length}
 use lib.Ieee.{Float}
 use Rattle.measures.specs.Bar.{Bar, barsOf, pricesOf}
 use Rattle.recognisers.specs.declared.call.Refusal.{Refusal}
-use Rattle.recognisers.specs.declared.call.Verdict.{Verdict}
-use Rattle.recognisers.specs.declared.call.Verdict.the-variants.{Accepted, Denied}
+use Rattle.recognisers.specs.declared.call.Verdict.{Verdict, the-variants.Accepted, the-variants.Denied}
 use Rattle.recognisers.specs.Number.{rowBytes, mostBars, places}
 use Rattle.recognisers.specs.Refusal.{badThreshold, tooManyBars, firstTrue, nextAfter}
 use Rattle.recognisers.specs.Threshold.{validOf}

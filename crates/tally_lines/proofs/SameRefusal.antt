@@ -12,13 +12,11 @@ use lib.ListN.{length, length-append}
 use Rattle.measures.specs.Bar.{Bar}
 use Rattle.recognisers.specs.declared.call.Refusal.the-variants as refusal
 use Rattle.recognisers.specs.Number.{mostBars}
-use Rattle.text.specs.declared.line_text.Line.{Line}
-use Rattle.text.specs.declared.line_text.Line.the-variants.{Prices, BadShape, BadPrice}
+use Rattle.text.specs.declared.line_text.Line.{Line, the-variants.Prices, the-variants.BadShape, the-variants.BadPrice}
 use Rattle.label_texts.specs.LabelText.{bytesOf}
 use Rattle.text.specs.LineText.{comma, lineOf}
 use Rattle.text.specs.Lines.{linesOf}
-use Rattle.label_lines.specs.declared.output.Stop.{Stop}
-use Rattle.label_lines.specs.declared.output.Stop.the-variants.{By, Price}
+use Rattle.label_lines.specs.declared.output.Stop.{Stop, the-variants.By, the-variants.Price}
 use Rattle.label_lines.specs.Output.{numeral, field, rowLine, rowLines, goesOn, refusalLine}
 use Rattle.label_lines.specs.History.{newestLines, linesPrint, historyPrints}
 use Rattle.label_lines.proofs.HistoryRows.{history-output}

@@ -8,8 +8,7 @@ use lib.Dec.{ltb}
 use lib.ListN.{length, take, drop, take-append-drop}
 use lib.Seq.{take-all}
 use Rattle.measures.specs.Bar.{Bar}
-use Rattle.recognisers.specs.declared.call.Verdict.{Verdict}
-use Rattle.recognisers.specs.declared.call.Verdict.the-variants.{Accepted, Denied}
+use Rattle.recognisers.specs.declared.call.Verdict.{Verdict, the-variants.Accepted, the-variants.Denied}
 use Rattle.bar_box.specs.declared.boxes.BarBox.{BarBox}
 use Rattle.recognisers.specs.Refusal.{leaves}
 use Rattle.tallies.specs.declared.table.TallyRow.{TallyRow}
@@ -17,9 +16,8 @@ use Rattle.tallies.specs.declared.feeds.Tallied.{Tallied}
 use Rattle.tallies.specs.Feed.{talliedOf}
 use Rattle.text.specs.Lines.{keptLine, content, partialOf}
 use Rattle.text.proofs.LineLaws.{content-partial}
-use Rattle.label_lines.specs.declared.output.Stop.{Stop}
+use Rattle.label_lines.specs.declared.output.Stop.{Stop, the-variants.Going, the-variants.By, the-variants.Price}
 use Rattle.label_lines.specs.Output.{goesOn}
-use Rattle.label_lines.specs.declared.output.Stop.the-variants.{Going, By, Price}
 use Rattle.tally_lines.specs.declared.session.Session.{Session}
 use Rattle.tally_lines.specs.Session.{Read, State, readFrom, barFeed, fedAll, settledBy, settled, stateAfter, stateOf, sessionOf}
 use Rattle.tally_lines.proofs.ReadLaws.{behind, read-append, read-after, kept-again}

@@ -10,13 +10,11 @@ use lib.Dec.{ltb, eqb}
 use lib.ListN.{length, length-append}
 use Rattle.measures.specs.Bar.{Bar}
 use Rattle.recognisers.specs.declared.call.Refusal.the-variants as refusal
-use Rattle.recognisers.specs.declared.call.Verdict.{Verdict}
-use Rattle.recognisers.specs.declared.call.Verdict.the-variants.{Accepted, Denied}
+use Rattle.recognisers.specs.declared.call.Verdict.{Verdict, the-variants.Accepted, the-variants.Denied}
 use Rattle.recognisers.specs.Number.{mostBars}
 use Rattle.recognisers.specs.Refusal.{leaves}
 use Rattle.tallies.specs.Tally.{freshTally}
-use Rattle.text.specs.declared.line_text.Line.{Line}
-use Rattle.text.specs.declared.line_text.Line.the-variants.{Prices, BadShape, BadPrice}
+use Rattle.text.specs.declared.line_text.Line.{Line, the-variants.Prices, the-variants.BadShape, the-variants.BadPrice}
 use Rattle.text.specs.LineText.{lineOf}
 use Rattle.text.specs.Lines.{lineFeed, linesFrom, keptLine}
 use Rattle.text.proofs.LineLaws.{lines-end, lines-last, lines-feed, lines-byte}

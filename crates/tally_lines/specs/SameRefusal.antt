@@ -8,8 +8,7 @@ use mathlib.Core.Path.{_≡_}
 use lib.ListN.{length}
 use Rattle.measures.specs.Bar.{Bar}
 use Rattle.recognisers.specs.Number.{mostBars}
-use Rattle.text.specs.declared.line_text.Line.{Line}
-use Rattle.text.specs.declared.line_text.Line.the-variants.{Prices}
+use Rattle.text.specs.declared.line_text.Line.{Line, the-variants.Prices}
 use Rattle.text.specs.LineText.{lineOf}
 use Rattle.text.specs.Lines.{lineFeed, linesOf}
 use Rattle.label_lines.specs.declared.output.Stop.{Stop}

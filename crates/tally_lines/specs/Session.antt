@@ -7,8 +7,7 @@ use lib.Dec.{eqb}
 use lib.ListN.{length, replicate}
 use Rattle.measures.specs.Bar.{Bar, pricesOf}
 use Rattle.recognisers.specs.declared.call.Refusal.the-variants as refusal
-use Rattle.recognisers.specs.declared.call.Verdict.{Verdict}
-use Rattle.recognisers.specs.declared.call.Verdict.the-variants.{Accepted, Denied}
+use Rattle.recognisers.specs.declared.call.Verdict.{Verdict, the-variants.Accepted, the-variants.Denied}
 use Rattle.recognisers.specs.Number.{rowBytes}
 use Rattle.recognisers.specs.Threshold.{standardSet}
 use Rattle.bar_box.specs.declared.boxes.BarBox.{BarBox}
@@ -19,12 +18,10 @@ use Rattle.tallies.specs.declared.table.TallyRow.{TallyRow}
 use Rattle.tallies.specs.declared.feeds.Tallied.{Tallied}
 use Rattle.tallies.specs.Tally.{freshTally}
 use Rattle.tallies.specs.Feed.{lent, talliedOf}
-use Rattle.text.specs.declared.line_text.Line.{Line}
-use Rattle.text.specs.declared.line_text.Line.the-variants.{Prices, BadShape, BadPrice}
+use Rattle.text.specs.declared.line_text.Line.{Line, the-variants.Prices, the-variants.BadShape, the-variants.BadPrice}
 use Rattle.text.specs.LineText.{lineOf}
 use Rattle.text.specs.Lines.{lineFeed, keptLine, content, partialOf}
-use Rattle.label_lines.specs.declared.output.Stop.{Stop}
-use Rattle.label_lines.specs.declared.output.Stop.the-variants.{Going, By, Price}
+use Rattle.label_lines.specs.declared.output.Stop.{Stop, the-variants.Going, the-variants.By, the-variants.Price}
 use Rattle.label_lines.specs.Output.{goesOn, refusalLine}
 use Rattle.tally_lines.specs.declared.reading.Gathered.{Gathered}
 use Rattle.tally_lines.specs.declared.session.Session.{Session}

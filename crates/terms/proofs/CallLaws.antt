@@ -8,8 +8,7 @@ use lib.Dec.{eqb}
 use lib.ListN.{length}
 use Rattle.recognisers.specs.Threshold.{Thresholds}
 use Rattle.recognisers.specs.declared.call.Refusal.the-variants.{BadThreshold, BrokenBars}
-use Rattle.recognisers.specs.declared.call.Verdict.{Verdict}
-use Rattle.recognisers.specs.declared.call.Verdict.the-variants.{Accepted, Denied}
+use Rattle.recognisers.specs.declared.call.Verdict.{Verdict, the-variants.Accepted, the-variants.Denied}
 use Rattle.recognisers.specs.Refusal.{Tried, brokenBars, badLayer, firstTrue, nextAfter}
 use Rattle.bar_box.specs.Sheet.{rowsOf}
 use Rattle.bar_box.specs.Box.{kept, takenIn, feedTried, feedVerdict, checkedTried, fedOf, sheetOf}

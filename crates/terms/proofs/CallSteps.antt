@@ -9,8 +9,7 @@ use lib.Seq.{take-at}
 use Rattle.measures.specs.Bar.{Bar, pricesOf, barsOf}
 use Rattle.measures.proofs.RunLaws.{length-bars}
 use Rattle.recognisers.specs.Threshold.{Thresholds}
-use Rattle.recognisers.specs.declared.call.Verdict.{Verdict}
-use Rattle.recognisers.specs.declared.call.Verdict.the-variants.{Accepted, Denied}
+use Rattle.recognisers.specs.declared.call.Verdict.{Verdict, the-variants.Accepted, the-variants.Denied}
 use Rattle.recognisers.specs.Number.{places, rowBytes, mostBars}
 use Rattle.bar_box.specs.Sheet.{rowsOf}
 use Rattle.bar_box.specs.Box.{takenIn, feedVerdict, fedOf}

@@ -12,8 +12,7 @@ use borrow.Author.Tests.{lt-ltb, ltb-true}
 use Rattle.measures.specs.Bar.{Bar, noBar}
 use Rattle.trading_hours.specs.declared.hours.Hours.{Hours}
 use Rattle.trading_hours.proofs.HourLaws.{both}
-use Rattle.terms.specs.declared.events.OpenBar.{OpenBar}
-use Rattle.terms.specs.declared.events.OpenBar.the-variants.{Nothing, Begun}
+use Rattle.terms.specs.declared.events.OpenBar.{OpenBar, the-variants.Nothing, the-variants.Begun}
 use Rattle.terms.specs.declared.events.Carried.{Carried}
 use Rattle.terms.specs.Events.{Event, Minute, Close, openBars, endedAt, carriedAt, endedOf, carriedOf, lastOf, minutesOf, minuteStep}
 use Rattle.terms.specs.Passing.{roomBars, someIn}

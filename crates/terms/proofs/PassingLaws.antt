@@ -12,8 +12,7 @@ use Rattle.measures.specs.Bar.{Bar}
 use Rattle.recognisers.specs.declared.call.Verdict.the-variants.{Accepted}
 use Rattle.recognisers.specs.Refusal.{firstTrue}
 use Rattle.trading_hours.specs.declared.hours.Hours.{Hours}
-use Rattle.terms.specs.declared.events.LastStamp.{LastStamp}
-use Rattle.terms.specs.declared.events.LastStamp.the-variants.{Never, At}
+use Rattle.terms.specs.declared.events.LastStamp.{LastStamp, the-variants.Never, the-variants.At}
 use Rattle.terms.specs.declared.events.Carried.{Carried}
 use Rattle.trading_hours.specs.Hours.{inHours}
 use Rattle.terms.specs.Events.{inTermOf, minuteStep, carriedOf, minutesOf}

@@ -15,10 +15,8 @@ use Rattle.recognisers.specs.Refusal.{firstTrue}
 use Rattle.bar_box.proofs.FeedSteps.{none-true}
 use Rattle.trading_hours.specs.declared.hours.Hours.{Hours}
 use Rattle.trading_hours.specs.Hours.{inHours}
-use Rattle.terms.specs.declared.events.LastStamp.{LastStamp}
-use Rattle.terms.specs.declared.events.LastStamp.the-variants.{Never, At}
-use Rattle.terms.specs.declared.events.OpenBar.{OpenBar}
-use Rattle.terms.specs.declared.events.OpenBar.the-variants.{Nothing}
+use Rattle.terms.specs.declared.events.LastStamp.{LastStamp, the-variants.Never, the-variants.At}
+use Rattle.terms.specs.declared.events.OpenBar.{OpenBar, the-variants.Nothing}
 use Rattle.terms.specs.declared.events.Carried.{Carried}
 use Rattle.terms.specs.Events.{Event, Minute, Close, carriedAt, carriedOf, minuteStep, lastOf, stampsIn, minutesOf}
 use Rattle.terms.specs.Layer.{above, stampsTried, soundCarried}

@@ -11,8 +11,7 @@ use lib.Ieee.{Float}
 use Rattle.measures.specs.Bar.{Bar, barsOf, overlay, pricesOf}
 use Rattle.measures.proofs.RunLaws.{length-bars, bars-drop}
 use Rattle.recognisers.specs.Number.{places, rowBytes}
-use Rattle.recognisers.specs.declared.call.Verdict.{Verdict}
-use Rattle.recognisers.specs.declared.call.Verdict.the-variants.{Accepted, Denied}
+use Rattle.recognisers.specs.declared.call.Verdict.{Verdict, the-variants.Accepted, the-variants.Denied}
 use Rattle.bar_box.specs.Sheet.{rowsOf}
 use Rattle.bar_box.specs.Box.{takenIn, feedVerdict, madeOf as boxMade}
 use Rattle.recognisers.specs.Refusal.{leaves}

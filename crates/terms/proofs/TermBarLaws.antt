@@ -10,8 +10,7 @@ use Rattle.measures.specs.Fold.{columnOf}
 use Rattle.trading_hours.specs.declared.hours.Hours.{Hours}
 use Rattle.trading_hours.specs.Hours.{termOf}
 use Rattle.trading_hours.proofs.TermLaws.{same-eq, same-self}
-use Rattle.terms.specs.declared.events.LastStamp.{LastStamp}
-use Rattle.terms.specs.declared.events.LastStamp.the-variants.{Never, At}
+use Rattle.terms.specs.declared.events.LastStamp.{LastStamp, the-variants.Never, the-variants.At}
 use Rattle.terms.specs.Events.{Event, Minute, Close, carriedWith, inTermOf, joinedBar, opened, endedBy, openBars, minuteStep, endedOf, carriedOf, termBar, termIn, endedTerms, openTerm, openOf, OneTerm, TermBars}
 
 -- one bar more of a term is joined to the term's bar

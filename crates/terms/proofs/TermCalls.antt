@@ -8,8 +8,7 @@ use native.Mathlib.Nat.{zero-add}
 use lib.ListN.{length, length-append}
 use Rattle.measures.specs.Bar.{Bar, pricesOf, barsOf}
 use Rattle.recognisers.specs.Threshold.{Thresholds, standardSet, validOf}
-use Rattle.recognisers.specs.declared.call.Verdict.{Verdict}
-use Rattle.recognisers.specs.declared.call.Verdict.the-variants.{Accepted, Denied}
+use Rattle.recognisers.specs.declared.call.Verdict.{Verdict, the-variants.Accepted, the-variants.Denied}
 use Rattle.recognisers.specs.Number.{rowBytes}
 use Rattle.bar_box.specs.Sheet.{rowsOf}
 use borrow.Author.Tests.{not-false}

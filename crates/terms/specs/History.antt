@@ -9,8 +9,7 @@ use lib.ListN.{length, getD, take}
 use lib.Ieee.{Float}
 use Rattle.measures.specs.Bar.{Bar, barsOf}
 use Rattle.recognisers.specs.Threshold.{Thresholds, validOf}
-use Rattle.recognisers.specs.declared.call.Verdict.{Verdict}
-use Rattle.recognisers.specs.declared.call.Verdict.the-variants.{Accepted}
+use Rattle.recognisers.specs.declared.call.Verdict.{Verdict, the-variants.Accepted}
 use Rattle.recognisers.specs.Number.{rowBytes}
 use Rattle.recognisers.specs.Refusal.{leaves}
 use Rattle.bar_box.specs.Calls.{after, each, joined}
@@ -18,8 +17,7 @@ use Rattle.bar_box.specs.History.{NoBars, oneFeed, fed, rowsIn, Holds as BoxHol
 use Rattle.trading_hours.specs.declared.hours.Hours.{Hours}
 use Rattle.trading_hours.specs.Hours.{mostWindows, windowsOf, validHours, inHours, termOf, termLength}
 use Rattle.trading_hours.specs.TermRule.{Before}
-use Rattle.terms.specs.declared.events.LastStamp.{LastStamp}
-use Rattle.terms.specs.declared.events.LastStamp.the-variants.{Never}
+use Rattle.terms.specs.declared.events.LastStamp.{LastStamp, the-variants.Never}
 use Rattle.terms.specs.declared.layers.Layer.{Layer}
 use Rattle.terms.specs.declared.layers.Taken.{Taken}
 use Rattle.terms.specs.Events.{Event, Close, nothingYet, endedOf, carriedOf, lastOf, stampsIn, minutesOf}

@@ -8,17 +8,14 @@ use lib.Ieee.{Float}
 use Rattle.measures.specs.Bar.{Bar, barsOf, pricesOf}
 use Rattle.recognisers.specs.Threshold.{Thresholds, standardSet}
 use Rattle.recognisers.specs.declared.call.Refusal.the-variants.{BadThreshold, BrokenBars}
-use Rattle.recognisers.specs.declared.call.Verdict.{Verdict}
-use Rattle.recognisers.specs.declared.call.Verdict.the-variants.{Accepted, Denied}
+use Rattle.recognisers.specs.declared.call.Verdict.{Verdict, the-variants.Accepted, the-variants.Denied}
 use Rattle.recognisers.specs.Refusal.{Tried, badThreshold, brokenBars, lateStamp, outsideHours, badLayer, firstTrue, nextAfter, leaves}
 use Rattle.bar_box.specs.declared.boxes.BarBox.{BarBox}
 use Rattle.bar_box.specs.Box.{freshBox, feedTried, fedOf, sheetOf}
 use Rattle.trading_hours.specs.declared.hours.Hours.{Hours}
 use Rattle.trading_hours.specs.Hours.{dayMinutes, windowFrom, noWindow, hoursWith, withZeros, validHours, inHours, termLength}
-use Rattle.terms.specs.declared.events.LastStamp.{LastStamp}
-use Rattle.terms.specs.declared.events.LastStamp.the-variants.{Never, At}
-use Rattle.terms.specs.declared.events.OpenBar.{OpenBar}
-use Rattle.terms.specs.declared.events.OpenBar.the-variants.{Nothing, Begun}
+use Rattle.terms.specs.declared.events.LastStamp.{LastStamp, the-variants.Never, the-variants.At}
+use Rattle.terms.specs.declared.events.OpenBar.{OpenBar, the-variants.Nothing, the-variants.Begun}
 use Rattle.terms.specs.declared.events.Carried.{Carried}
 use Rattle.terms.specs.declared.layers.Layer.{Layer}
 use Rattle.terms.specs.declared.layers.Taken.{Taken}

@@ -11,13 +11,11 @@ use lib.ListN.{length, take, drop, replicate, length-take, length-map}
 use lib.Seq.{take-all, take-append-seam}
 use Rattle.recognisers.specs.Number.{longestLine}
 use Rattle.recognisers.specs.declared.call.Refusal.the-variants as refusal
-use Rattle.recognisers.specs.declared.call.Verdict.{Verdict}
-use Rattle.recognisers.specs.declared.call.Verdict.the-variants.{Accepted, Denied}
+use Rattle.recognisers.specs.declared.call.Verdict.{Verdict, the-variants.Accepted, the-variants.Denied}
 use Rattle.recognisers.specs.Refusal.{badShape, badPrice, firstTrue, verdictNumber}
 use Rattle.text.specs.declared.lines.Partial.{Partial}
 use Rattle.text.specs.declared.price_text.Price.{Price}
-use Rattle.text.specs.declared.line_text.Line.{Line}
-use Rattle.text.specs.declared.line_text.Line.the-variants.{BadShape}
+use Rattle.text.specs.declared.line_text.Line.{Line, the-variants.BadShape}
 use Rattle.text.specs.PriceText.{runOf}
 use Rattle.text.specs.Lines.{lineFeed, piecesFrom, piecesOf, endedLines, linesFrom, linesOf, pieceEnd, keptLine, content, partialOf}
 use Rattle.text.specs.LineText.{pricesIn, allPrices, leftmostBad, lineVerdict, verdictIn, badPlaces, answerTo, saidOf, lineOf, verdictOf, placesIn, fieldsLine}

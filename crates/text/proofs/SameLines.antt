@@ -11,14 +11,11 @@ use lib.Ieee.{nan}
 use lib.ListN.{length, getD, take}
 use Rattle.measures.specs.Bar.{Bar, barOf, noBar}
 use Rattle.recognisers.specs.declared.call.Refusal.the-variants as refusal
-use Rattle.recognisers.specs.declared.call.Verdict.{Verdict}
-use Rattle.recognisers.specs.declared.call.Verdict.the-variants.{Accepted, Denied}
+use Rattle.recognisers.specs.declared.call.Verdict.{Verdict, the-variants.Accepted, the-variants.Denied}
 use Rattle.recognisers.specs.Number.{longestLine}
 use Rattle.recognisers.specs.Refusal.{firstTrue}
-use Rattle.text.specs.declared.price_text.Price.{Price}
-use Rattle.text.specs.declared.price_text.Price.the-variants.{Value, Bad}
-use Rattle.text.specs.declared.line_text.Line.{Line}
-use Rattle.text.specs.declared.line_text.Line.the-variants.{Prices, BadShape, BadPrice}
+use Rattle.text.specs.declared.price_text.Price.{Price, the-variants.Value, the-variants.Bad}
+use Rattle.text.specs.declared.line_text.Line.{Line, the-variants.Prices, the-variants.BadShape, the-variants.BadPrice}
 use Rattle.text.specs.LineText.{pricesIn, isPrice, allPrices, pricesBefore, leftmostBad, lineVerdict, valueOf, valueAt, answerTo, saidOf, lineOf, placesIn}
 use Rattle.text.specs.SameLines.{fourOf, Leftmost, SameLines}
 use Rattle.text.proofs.RunLaws.{both}

@@ -7,13 +7,10 @@ use lib.ListN.{length, getD}
 use lib.Ieee.{Float, nan}
 use Rattle.measures.specs.Bar.{barOf}
 use Rattle.recognisers.specs.declared.call.Refusal.the-variants as refusal
-use Rattle.recognisers.specs.declared.call.Verdict.{Verdict}
-use Rattle.recognisers.specs.declared.call.Verdict.the-variants.{Accepted, Denied}
+use Rattle.recognisers.specs.declared.call.Verdict.{Verdict, the-variants.Accepted, the-variants.Denied}
 use Rattle.recognisers.specs.Refusal.{refusalNumber, badShape, badPrice, firstTrue, verdictNumber}
-use Rattle.text.specs.declared.price_text.Price.{Price}
-use Rattle.text.specs.declared.price_text.Price.the-variants.{Value, Bad}
-use Rattle.text.specs.declared.line_text.Line.{Line}
-use Rattle.text.specs.declared.line_text.Line.the-variants.{Prices, BadShape, BadPrice}
+use Rattle.text.specs.declared.price_text.Price.{Price, the-variants.Value, the-variants.Bad}
+use Rattle.text.specs.declared.line_text.Line.{Line, the-variants.Prices, the-variants.BadShape, the-variants.BadPrice}
 use Rattle.text.specs.PriceText.{priceOf}
 use Rattle.text.specs.Lines.{piecesOf}
 

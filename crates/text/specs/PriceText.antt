@@ -6,8 +6,7 @@ use lib.Dec.{eqb, leb}
 use lib.IntN.{pos}
 use lib.ListN.{length, getD, take, drop}
 use lib.Ieee.{Float, nan, binary64, neg, div, ofInt}
-use Rattle.text.specs.declared.price_text.Price.{Price}
-use Rattle.text.specs.declared.price_text.Price.the-variants.{Value, Bad}
+use Rattle.text.specs.declared.price_text.Price.{Price, the-variants.Value, the-variants.Bad}
 
 -- ---- bytes
 

@@ -43,8 +43,7 @@ use denote.Exit.{yes}
 use Rattle.measures.specs.Bar.{Bar}
 use Rattle.measures.specs.Window.{upTo, windowOf}
 use Rattle.recognisers.specs.Threshold.{Thresholds}
-use Rattle.recognisers.specs.declared.call.Answer.{Answer}
-use Rattle.recognisers.specs.declared.call.Answer.the-variants.{Labels}
+use Rattle.recognisers.specs.declared.call.Answer.{Answer, the-variants.Labels}
 use Rattle.recognisers.specs.Number.{gated, reachBars, quarterBars, gateEnd}
 use Rattle.recognisers.specs.Table.{judgeOf}
 use Rattle.recognisers.specs.Refusal.{answerTo, plainVerdict}

@@ -9,8 +9,7 @@ use lib.ListN.{length, getD}
 use Rattle.recognisers.specs.Export.{barBytes}
 use Rattle.replay.specs.Command.{thresholdsSize, callSize, isNew, hasForm, commandOf}
 use Rattle.replay.specs.Hex.{payloadOf}
-use Rattle.replay.specs.declared.command.Command.{Command}
-use Rattle.replay.specs.declared.command.Command.the-variants.{New, Bar, Thresholds, Call, Bad}
+use Rattle.replay.specs.declared.command.Command.{Command, the-variants.New, the-variants.Bar, the-variants.Thresholds, the-variants.Call, the-variants.Bad}
 
 abbrev pub Sized : Command → List ℕ → Type 0
 Sized New line = Unit {0}

@@ -3,8 +3,7 @@ use mathlib.Core.Path.{_≡_, refl, _∙_}
 use borrow.Author.Needs.{needs}
 use lib.ListN.{length}
 use Rattle.measures.specs.Bar.{barsOf, overlay}
-use Rattle.recognisers.specs.declared.call.Verdict.{Verdict}
-use Rattle.recognisers.specs.declared.call.Verdict.the-variants.{Accepted, Denied}
+use Rattle.recognisers.specs.declared.call.Verdict.{Verdict, the-variants.Accepted, the-variants.Denied}
 use Rattle.recognisers.specs.Refusal.{leaves}
 use Rattle.bar_box.specs.Box.{freshBox, takenIn, feedVerdict, fedOf, sheetOf}
 use Rattle.bar_box.proofs.PartLaws.{rowsFrom}

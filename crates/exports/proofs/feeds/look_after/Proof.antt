@@ -20,7 +20,7 @@ returns-2 c =
     let told = c .before .before in
     let made = told .before .before .before .before in
     let accepted = sym (ap (λ (o : Outcome). o .verdict) (made .fed .ensures .0)) ∙ told .enum-told .given .1 in
-    (c .look .ensures ∙ rw (made .fed .ensures .0, accepted), made .fed .ensures .1)
+    (c .look .ensures .0 ∙ rw (made .fed .ensures .0, accepted), made .fed .ensures .1)
 
 pub look-after-spec : {M : Type 1} → statement M
 look-after-spec =

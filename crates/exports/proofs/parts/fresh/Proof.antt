@@ -2,8 +2,7 @@
 use mathlib.Core.Path.{_≡_, refl}
 use mathlib.Core.List.{[], _∷_}
 use Rattle.recognisers.specs.Threshold.{Thresholds}
-use Rattle.recognisers.specs.declared.call.Verdict.{Verdict}
-use Rattle.recognisers.specs.declared.call.Verdict.the-variants.{Accepted, Denied}
+use Rattle.recognisers.specs.declared.call.Verdict.{Verdict, the-variants.Accepted, the-variants.Denied}
 use Rattle.recognisers.specs.Refusal.{badThreshold, firstTrue}
 use Rattle.bar_box.specs.declared.boxes.BarBox.{BarBox}
 use Rattle.bar_box.specs.Box.{freshBox, madeBy, madeOf}
@@ -22,7 +21,7 @@ returns : tie.Need-returns
 unfolding madeOf
 returns c =
     let t = c .before .before .args .t in
-    rw (c .before .make .ensures) (made-with (firstTrue (badThreshold t ∷ [])) t)
+    rw (c .before .make .ensures .0) (made-with (firstTrue (badThreshold t ∷ [])) t)
 
 pub fresh-spec : {M : Type 1} → statement M
 fresh-spec = tie.close (tie.spec (λ c κs. tt) returns)

@@ -20,7 +20,7 @@ returns c =
     let read = made .before in
     let set = read .before in
     let args = set .before .before .before .before .before .before .before .args in
-    let is = rw (set .new .ensures, read .hours-of .ensures) at (made .make .ensures) in
+    let is = rw (set .new .ensures, read .hours-of .ensures) at (made .make .ensures .0) in
     let verdict = ap (λ (t : Taken). t .verdict) is in
     let number = c .verdict-number .ensures ∙ ap verdictNumber verdict in
     ⊎-elim
