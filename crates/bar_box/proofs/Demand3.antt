@@ -6,7 +6,7 @@ use mathlib.Core.List.{List, [], _∷_, _++_}
 use mathlib.Core.Logic.{inr}
 use native.Mathlib.Omega.{arith}
 use native.Mathlib.Nat.{zero-add}
-use lib.ListN.{length, drop}
+use lib.ListN.{length, drop, replicate}
 use lib.Ieee.{le, ofBits}
 use Rattle.measures.specs.Bar.{Bar}
 use Rattle.measures.specs.Window.{newest, backOf}
@@ -16,13 +16,13 @@ use Rattle.recognisers.specs.declared.call.Refusal.the-variants.{BadThreshold}
 use Rattle.recognisers.specs.declared.call.Verdict.the-variants.{Accepted, Denied}
 use Rattle.recognisers.specs.declared.call.LookAnswer.the-variants.{Judged}
 use Rattle.recognisers.specs.Number.{recognisers, rowBytes, gated, places, farthestLook}
-use Rattle.recognisers.specs.Table.{pairAt, shortOf, codesOf}
+use Rattle.recognisers.specs.Table.{tableRow, pairAt, codesOf}
 use Rattle.recognisers.specs.Refusal.{firstTrue}
 use Rattle.recognisers.proofs.TableLaws.{no-bar}
 use Rattle.bar_box.specs.declared.boxes.BarBox.{BarBox}
 use Rattle.bar_box.specs.Sheet.{rowsOf}
 use Rattle.bar_box.specs.Box.{keptBar, numbered, takenIn, emptyPlace, emptyPlaces, freshBox, madeBy, madeOf, lookAnswerOf}
-use Rattle.bar_box.specs.History.{Feed, historyAfter, boxAfter, verdictsOf, joinedRows, printed, barWith, inPlace, InLimits, Within, Holds, NoBars, Fresh, ZerosLeft, Demand3}
+use Rattle.bar_box.specs.History.{Feed, historyAfter, boxAfter, verdictsOf, joinedRows, printed, barWith, inPlace, InLimits, Within, Holds, NoBars, Fresh, Demand3}
 use Rattle.bar_box.proofs.SheetLaws.{length-rows}
 use Rattle.bar_box.proofs.OrdinalLaws.{length-numbered, place-at}
 use Rattle.bar_box.proofs.BoxLaws.{drop-replicate}
@@ -67,7 +67,7 @@ module _ (b : BarBox) (start : NoBars b) (fs : List Feed) where
   look-joined di k (limits, within) =
       rw joined-box (look-ordinal b start joined k di (joined-sound .valid (omega (arith, limits, within))) (joined-sound .few) limits ∙ rw (upTo-in (length joined) di (limits .0) within))
 
-  look-beyond : validOf (b .thresholds) ≡ true → (di k : ℕ) → InLimits di k → length joined < di → lookAnswerOf (boxAfter b fs) k di ≡ Judged (shortOf k) 0
+  look-beyond : validOf (b .thresholds) ≡ true → (di k : ℕ) → InLimits di k → length joined < di → lookAnswerOf (boxAfter b fs) k di ≡ Judged (tableRow k .short) 0
   look-beyond valid di k limits beyond =
       let none = upTo-out (length joined) di (inr beyond) in
       rw joined-box (look-ordinal b start joined k di valid (joined-sound .few) limits ∙ rw (none, no-bar k (b .thresholds) (length joined) joined di (limits .2) none))
@@ -163,7 +163,9 @@ unfolding madeOf firstTrue
 made t = made-by t (validOf t) refl
 
 -- "and zeros where there are fewer"
-zeros-after : (t : Thresholds) (fs : List Feed) → let b = madeOf t .after in ZerosLeft b fs (historyAfter (b .thresholds) [] fs)
+zeros-after : (t : Thresholds) (fs : List Feed)
+    → let b = madeOf t .after in
+    let h = historyAfter (b .thresholds) [] fs in boxAfter b fs .bars ≡ newest places (numbered 0 h) ++ replicate (places - length h) emptyPlace
 zeros-after t fs =
     let m = made t in
     let b = madeOf t .after in

@@ -9,17 +9,14 @@ use Rattle.measures.specs.Bar.{Bar, barOf, barsOf, overlay}
 use Rattle.measures.specs.Price.{zero}
 use Rattle.measures.specs.Window.{upTo, newest}
 use Rattle.recognisers.specs.Threshold.{Thresholds, standardSet}
-use Rattle.recognisers.specs.declared.call.Verdict.{Verdict, the-variants.Accepted, the-variants.Denied}
-use Rattle.recognisers.specs.declared.call.Answer.{Answer, the-variants.Labels, the-variants.Refused}
-use Rattle.recognisers.specs.declared.call.LookAnswer.{LookAnswer}
+use Rattle.recognisers.specs.declared.call.{Verdict.Verdict, Answer.Answer, Answer.the-variants.Labels, Answer.the-variants.Refused, LookAnswer.LookAnswer}
+use Rattle.recognisers.specs.declared.call.Verdict.the-variants.{Accepted, Denied}
 use Rattle.recognisers.specs.declared.call.LookAnswer.the-variants as look
 use Rattle.recognisers.specs.Number.{places}
 use Rattle.recognisers.specs.Table.{pairAt}
 use Rattle.recognisers.specs.declared.call.Refusal.the-variants.{BadThreshold, BrokenBars, TooManyBars}
 use Rattle.recognisers.specs.Refusal.{Tried, tried, unknownRecogniser, zeroOffset, badThreshold, brokenBars, tooManyBars, shortSheet, farLook, badLayer, firstTrue, nextAfter, leaves, answerTo}
-use Rattle.bar_box.specs.declared.boxes.KeptBar.{KeptBar}
-use Rattle.bar_box.specs.declared.boxes.BarBox.{BarBox}
-use Rattle.bar_box.specs.declared.boxes.Outcome.{Outcome}
+use Rattle.bar_box.specs.declared.boxes.{KeptBar.KeptBar, BarBox.BarBox, Outcome.Outcome}
 use Rattle.bar_box.specs.Sheet.{rowsOf}
 
 -- ---- the box

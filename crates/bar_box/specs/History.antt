@@ -12,11 +12,9 @@ use Rattle.recognisers.specs.Threshold.{Thresholds, standardSet, validOf}
 use Rattle.recognisers.specs.declared.call.Verdict.{Verdict, the-variants.Accepted}
 use Rattle.recognisers.specs.declared.call.LookAnswer.the-variants.{Judged}
 use Rattle.recognisers.specs.Number.{recognisers, rowBytes, gated, places, farthestLook}
-use Rattle.recognisers.specs.Table.{pairAt, shortOf, codesOf}
+use Rattle.recognisers.specs.Table.{tableRow, pairAt, codesOf}
 use Rattle.recognisers.specs.Refusal.{codesIn, answerIn, ordinalIn, leaves}
-use Rattle.bar_box.specs.declared.boxes.KeptBar.{KeptBar}
-use Rattle.bar_box.specs.declared.boxes.BarBox.{BarBox}
-use Rattle.bar_box.specs.declared.boxes.Outcome.{Outcome}
+use Rattle.bar_box.specs.declared.boxes.{KeptBar.KeptBar, BarBox.BarBox, Outcome.Outcome}
 use Rattle.bar_box.specs.Calls.{after, each, joined}
 use Rattle.bar_box.specs.Box.{keptBar, numbered, emptyPlace, madeOf, feedVerdict, fedOf, sheetOf, lookAnswerOf}
 
@@ -118,7 +116,7 @@ pub record Holds (b : BarBox) (fs : List Feed) (h : List Bar) (sheet : List ℕ)
   pub look-printed : (di k : ℕ) → Within h di k → (k ≡ gated → ⊥)
       → let seen = lookAnswerOf (boxAfter b fs) k di in codesIn (answerIn seen) ≡ printed (joinedRows b fs) (ordinalIn seen - 1) k
   -- (i) within a look's limits and beyond the history there is no judged bar: the short pair, and the ordinal 0
-  pub look-none : validOf (b .thresholds) ≡ true → (di k : ℕ) → InLimits di k → length h < di → lookAnswerOf (boxAfter b fs) k di ≡ Judged (shortOf k) 0
+  pub look-none : validOf (b .thresholds) ≡ true → (di k : ℕ) → InLimits di k → length h < di → lookAnswerOf (boxAfter b fs) k di ≡ Judged (tableRow k .short) 0
 
 -- a box without bars, as made or as a caller filled it: N is 0, whatever its thresholds and its 64 places hold
 pub record NoBars (b : BarBox) : Type 0 where
@@ -133,10 +131,6 @@ pub record Fresh (t : Thresholds) (b : BarBox) : Type 0 where
   pub valid : validOf (b .thresholds) ≡ true
   pub zeros : b .bars ≡ replicate places emptyPlace
 
--- after the feeds the places that no bar took still hold zeros
-abbrev pub ZerosLeft : BarBox → List Feed → List Bar → Type 0
-ZerosLeft b fs h = boxAfter b fs .bars ≡ newest places (numbered 0 h) ++ replicate (places - length h) emptyPlace
-
 -- for every list of feeds: over every box without bars, and over the box made with any thresholds
 pub record Demand3 : Type 0 where
   pub holds : (b : BarBox) → NoBars b → (fs : List Feed) (sheet : List ℕ)
@@ -145,5 +139,7 @@ pub record Demand3 : Type 0 where
   pub cuts : (b : BarBox) → NoBars b → (fs gs : List Feed) → historyAfter (b .thresholds) [] fs ≡ historyAfter (b .thresholds) [] gs
       → (boxAfter b fs ≡ boxAfter b gs) × (joinedRows b fs ≡ joinedRows b gs)
   pub fresh : (t : Thresholds) → Fresh t (madeOf t .after)
+  -- after the feeds the places that no bar took still hold zeros
   pub zeros-left : (t : Thresholds) (fs : List Feed)
-      → let b = madeOf t .after in ZerosLeft b fs (historyAfter (b .thresholds) [] fs)
+      → let b = madeOf t .after in
+      let h = historyAfter (b .thresholds) [] fs in boxAfter b fs .bars ≡ newest places (numbered 0 h) ++ replicate (places - length h) emptyPlace

@@ -15,7 +15,7 @@ use Rattle.terms.specs.declared.layers.Taken.{Taken}
 use Rattle.terms.specs.History.{Call, Run, Shut, lentSheet, called, sheetAfter}
 use Rattle.terms.proofs.CallSteps.{rows-fit}
 use Rattle.exports.specs.Numbers.{writtenTo}
-use Rattle.exports.specs.TermCalls.{callOf, answerOf, answersOf, sheetThrough, termsSheet, termsAnswers}
+use Rattle.exports.specs.TermCalls.{callOf, answerBy, answersOf, sheetThrough, termsSheet, termsAnswers}
 use Rattle.exports.proofs.ListLaws.{left-is, front-more, behind-more}
 
 -- a call of no bar is a close, any other a run
@@ -70,7 +70,7 @@ module _ (l : Layer) (ps : List Float) (ss sheet sizes : List ℕ) (p s at i : �
       )
 
   pub answers-next : answersOf l (drop p ps) (drop s ss) (drop at sheet) (drop i sizes)
-      ≡ answerOf outAt ∷ answersOf (outAt .after) (drop (min (p + 4 * size) (length ps)) ps) (drop (min (s + size) (length ss)) ss) (drop atThen sheetThen) (drop (i + 1) sizes)
+      ≡ answerBy (outAt .verdict) (outAt .rows) ∷ answersOf (outAt .after) (drop (min (p + 4 * size) (length ps)) ps) (drop (min (s + size) (length ss)) ss) (drop atThen sheetThen) (drop (i + 1) sizes)
   unfolding answersOf
   answers-next = rw (sizes-are, left-is ps p (4 * size), left-is ss s size, behind-more sheet (sheetAfter l callAt) at (rowBytes * outAt .rows) here)
 

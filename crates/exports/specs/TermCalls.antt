@@ -6,11 +6,9 @@ use lib.Ieee.{Float}
 use Rattle.recognisers.specs.Number.{rowBytes}
 use Rattle.recognisers.specs.Refusal.{refusalNumber, leaves}
 use Rattle.recognisers.specs.declared.call.Verdict.{Verdict, the-variants.Accepted, the-variants.Denied}
-use Rattle.trading_hours.specs.declared.hours.DayWindow.{DayWindow}
-use Rattle.trading_hours.specs.declared.hours.Hours.{Hours}
+use Rattle.trading_hours.specs.declared.hours.{DayWindow.DayWindow, Hours.Hours}
 use Rattle.trading_hours.specs.Hours.{mostWindows, windowFrom, hoursWith}
-use Rattle.terms.specs.declared.layers.Layer.{Layer}
-use Rattle.terms.specs.declared.layers.Taken.{Taken}
+use Rattle.terms.specs.declared.layers.{Layer.Layer, Taken.Taken}
 use Rattle.terms.specs.History.{Call, Run, Shut, called, sheetAfter}
 use Rattle.exports.specs.Numbers.{writtenTo}
 
@@ -37,16 +35,13 @@ abbrev pub answerBy : Verdict → ℕ → ℕ
 answerBy Accepted rows = rows
 answerBy (Denied r) rows = 16777216 + refusalNumber r
 
-abbrev pub answerOf : Taken → ℕ
-answerOf t = answerBy (t .verdict) (t .rows)
-
 -- the bars that are left, and the sheet behind the rows that were filled, go to the next call
 unfoldable pub answersOf : Layer → List Float → List ℕ → List ℕ → List ℕ → List ℕ
 answersOf l prices stamps sheet [] = []
 answersOf l prices stamps sheet (n ∷ ns) =
     let x = callOf n prices stamps sheet in
     let t = called l x in
-    answerOf t ∷ answersOf (t .after) (drop (4 * n) prices) (drop n stamps) (drop (rowBytes * t .rows) (sheetAfter l x)) ns
+    answerBy (t .verdict) (t .rows) ∷ answersOf (t .after) (drop (4 * n) prices) (drop n stamps) (drop (rowBytes * t .rows) (sheetAfter l x)) ns
 
 unfoldable pub sheetThrough : Layer → List Float → List ℕ → List ℕ → List ℕ → List ℕ
 sheetThrough l prices stamps sheet [] = sheet

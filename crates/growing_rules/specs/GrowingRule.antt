@@ -11,8 +11,8 @@ use Rattle.measures.specs.declared.folds.Column.the-variants.{Close, High, Low}
 use Rattle.measures.specs.Price.{maxOf, minOf}
 use Rattle.measures.specs.Window.{windowOf, backOf}
 use Rattle.measures.specs.Fold.{columnOf, highestOf, lowestOf, varianceOf, everyOf}
-use Rattle.rule_types.specs.declared.label.Label.{Label, the-variants.Other, the-variants.RisingThreeMethods, the-variants.FallingThreeMethods, the-variants.Bars5, the-variants.Bars6, the-variants.Bars7, the-variants.Bars8, the-variants.Bars9, the-variants.Bottom, the-variants.Top}
-use Rattle.rule_types.specs.declared.label.Pair.{Pair}
+use Rattle.rule_types.specs.declared.label.{Label.Label, Pair.Pair}
+use Rattle.rule_types.specs.declared.label.Label.the-variants.{Other, RisingThreeMethods, FallingThreeMethods, Bars5, Bars6, Bars7, Bars8, Bars9, Bottom, Top}
 use Rattle.growing_rules.specs.declared.Growing.{Growing}
 use Rattle.rule_types.specs.Label.{codeOf, pairOf, pairA}
 use Rattle.rule_types.specs.Number.{aHalf}

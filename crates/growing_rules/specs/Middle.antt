@@ -11,13 +11,9 @@ use Rattle.measures.specs.declared.folds.Column.the-variants.{High, Low}
 use Rattle.measures.specs.Price.{maxOf, minOf}
 use Rattle.measures.specs.Window.{windowOf, backOf}
 use Rattle.measures.specs.Fold.{columnOf, everyOf, extremesOf}
-use Rattle.rule_types.specs.declared.label.Label.{Label}
-use Rattle.rule_types.specs.declared.label.Pair.{Pair}
+use Rattle.rule_types.specs.declared.label.{Label.Label, Pair.Pair}
 use Rattle.rule_types.specs.Label.{pairA}
-use Rattle.growing_rules.specs.declared.Ends.{Ends}
-use Rattle.growing_rules.specs.declared.Growing.{Growing}
-use Rattle.growing_rules.specs.declared.Leaders.{Leaders}
-use Rattle.growing_rules.specs.declared.Shape.{Shape, the-variants.ThreeMethods, the-variants.Tower}
+use Rattle.growing_rules.specs.declared.{Ends.Ends, Growing.Growing, Leaders.Leaders, Shape.Shape, Shape.the-variants.ThreeMethods, Shape.the-variants.Tower}
 use Rattle.growing_rules.specs.declared.middle.Middle.{Middle}
 use Rattle.growing_rules.specs.GrowingRule.{firstMatch, innerOf, threeMethods, bodiesDown, bodiesKnown, tower}
 

@@ -6,9 +6,8 @@ use lib.Dec.{ltb, leb, eqb}
 use lib.ListN.{replicate}
 use Rattle.io.specs.Digits.{digits}
 use Rattle.measures.specs.Bar.{Bar, pricesOf}
-use Rattle.recognisers.specs.declared.call.Refusal.{Refusal}
+use Rattle.recognisers.specs.declared.call.{Refusal.Refusal, Verdict.Verdict, Verdict.the-variants.Accepted, Verdict.the-variants.Denied}
 use Rattle.recognisers.specs.declared.call.Refusal.the-variants as refusal
-use Rattle.recognisers.specs.declared.call.Verdict.{Verdict, the-variants.Accepted, the-variants.Denied}
 use Rattle.recognisers.specs.Number.{recognisers, rowBytes}
 use Rattle.recognisers.specs.Refusal.{refusalNumber}
 use Rattle.recognisers.specs.Threshold.{standardSet}

@@ -9,8 +9,7 @@ use Rattle.recognisers.specs.Threshold.{standardSet}
 use Rattle.bar_box.specs.declared.boxes.BarBox.{BarBox}
 use Rattle.bar_box.specs.Box.{freshBox}
 use Rattle.text.specs.Lines.{lineFeed, keptLine, content, partialOf}
-use Rattle.label_lines.specs.declared.session.Session.{Session}
-use Rattle.label_lines.specs.declared.session.Absorbed.{Absorbed}
+use Rattle.label_lines.specs.declared.session.{Session.Session, Absorbed.Absorbed}
 use Rattle.label_lines.specs.Output.{lineRoom, lineStep}
 
 -- the line that has begun, of which the first bytes are kept, the box, and whether a line was refused

@@ -5,9 +5,8 @@ use lib.IntN.{pos}
 use lib.ListN.{length}
 use lib.Ieee.{Float, binary64, inf, ofInt, add, sub, mul, div, le}
 use Rattle.prices.specs.declared.bars.Bar.{Bar}
-use Rattle.measures.specs.declared.folds.Column.{Column, the-variants.Open, the-variants.Close, the-variants.High, the-variants.Low}
-use Rattle.measures.specs.declared.folds.Fold.{Fold, the-variants.Highest, the-variants.Lowest, the-variants.Sum, the-variants.Squares}
-use Rattle.measures.specs.declared.folds.Extremes.{Extremes}
+use Rattle.measures.specs.declared.folds.{Column.Column, Fold.Fold, Fold.the-variants.Highest, Fold.the-variants.Lowest, Fold.the-variants.Sum, Fold.the-variants.Squares, Extremes.Extremes}
+use Rattle.measures.specs.declared.folds.Column.the-variants.{Open, Close, High, Low}
 use Rattle.prices.specs.Price.{zero, aQuarter, maxOf, minOf, squareOf}
 
 -- the prices of a column of a window

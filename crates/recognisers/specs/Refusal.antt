@@ -7,10 +7,9 @@ use lib.ListN.{length}
 use lib.Ieee.{Float}
 use Rattle.measures.specs.Bar.{Bar, barsOf}
 use Rattle.rule_table.specs.declared.thresholds.Thresholds.{Thresholds}
-use Rattle.recognisers.specs.declared.call.Refusal.{Refusal, the-variants.UnknownRecogniser, the-variants.ZeroOffset, the-variants.BadThreshold, the-variants.BrokenBars, the-variants.TooManyBars, the-variants.ShortSheet, the-variants.FarLook, the-variants.BadShape, the-variants.BadPrice, the-variants.LateStamp, the-variants.OutsideHours, the-variants.BadLayer}
-use Rattle.recognisers.specs.declared.call.Verdict.{Verdict, the-variants.Accepted, the-variants.Denied}
-use Rattle.recognisers.specs.declared.call.Answer.{Answer, the-variants.Labels, the-variants.Refused}
-use Rattle.recognisers.specs.declared.call.LookAnswer.{LookAnswer}
+use Rattle.recognisers.specs.declared.call.{Refusal.Refusal, Verdict.Verdict, Answer.Answer, Answer.the-variants.Labels, Answer.the-variants.Refused, LookAnswer.LookAnswer}
+use Rattle.recognisers.specs.declared.call.Refusal.the-variants.{UnknownRecogniser, ZeroOffset, BadThreshold, BrokenBars, TooManyBars, ShortSheet, FarLook, BadShape, BadPrice, LateStamp, OutsideHours, BadLayer}
+use Rattle.recognisers.specs.declared.call.Verdict.the-variants.{Accepted, Denied}
 use Rattle.recognisers.specs.declared.call.LookAnswer.the-variants as look
 use Rattle.rule_table.specs.Threshold.{validOf}
 use Rattle.rule_types.specs.Number.{recognisers, rowBytes, mostBars, farthestLook, longestLine}

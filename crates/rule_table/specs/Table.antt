@@ -90,17 +90,13 @@ noRow = row 0 pairA (λ t deep s. pairA)
 unfoldable pub tableRow : ℕ → Row
 tableRow k = getD rows k noRow
 
--- the short pair
-abbrev pub shortOf : ℕ → Pair
-shortOf k = tableRow k .short
-
 -- the rule of recogniser k; of 12, A where its gate is shut, which reads len and a window of its own
 abbrev pub ruleOf : ℕ → Thresholds → ℕ → Bool → List Bar → List Bar → Pair
 ruleOf k t len deep w gate = cond (eqb k gated && gateShut len gate (seenOf w .b3)) pairA (tableRow k .rule t deep (seenOf w))
 
 -- recogniser k over the window w that ends with the judged bar, of which p bars lie up to it: below the p given, the short pair, else the rule
 unfoldable pub judgeOf : ℕ → Thresholds → ℕ → ℕ → List Bar → List Bar → Pair
-judgeOf k t len p w gate = cond (ltb p (tableRow k .from)) (shortOf k) (ruleOf k t len (leb reachBars p) w gate)
+judgeOf k t len p w gate = cond (ltb p (tableRow k .from)) (tableRow k .short) (ruleOf k t len (leb reachBars p) w gate)
 
 -- all bars of a history up to the judged one
 abbrev pub allUpTo : List Bar → ℕ → List Bar

@@ -1,7 +1,8 @@
 -- Codes of the labels. Assumes nothing.
 use Prim.Native.Nat.{_<_}
 use native.Mathlib.Omega.{arith}
-use Rattle.rule_types.specs.declared.label.Label.{Label, the-variants.Other, the-variants.Any, the-variants.Met, the-variants.Hammer, the-variants.HangingMan, the-variants.BullishEngulfing, the-variants.BearishEngulfing, the-variants.RisingThreeMethods, the-variants.FallingThreeMethods, the-variants.Bars5, the-variants.Bars6, the-variants.Bars7, the-variants.Bars8, the-variants.Bars9, the-variants.MorningStar, the-variants.EveningStar, the-variants.MiddleDoji, the-variants.FallingSeparatingLines, the-variants.RisingSeparatingLines, the-variants.ArrowOnString, the-variants.CandleInWind, the-variants.Bearish, the-variants.Bullish, the-variants.Bottom, the-variants.Top, the-variants.StandardBody, the-variants.Regular, the-variants.Strong, the-variants.HalfStrong, the-variants.DragonflyDoji, the-variants.GravestoneDoji, the-variants.LongLeggedDoji, the-variants.CommonDoji, the-variants.Northern, the-variants.BullishCounterattack, the-variants.BearishCounterattack, the-variants.GapUp, the-variants.GapDown}
+use Rattle.rule_types.specs.declared.label.Label.{Label}
+use Rattle.rule_types.specs.declared.label.Label.the-variants.{Other, Any, Met, Hammer, HangingMan, BullishEngulfing, BearishEngulfing, RisingThreeMethods, FallingThreeMethods, Bars5, Bars6, Bars7, Bars8, Bars9, MorningStar, EveningStar, MiddleDoji, FallingSeparatingLines, RisingSeparatingLines, ArrowOnString, CandleInWind, Bearish, Bullish, Bottom, Top, StandardBody, Regular, Strong, HalfStrong, DragonflyDoji, GravestoneDoji, LongLeggedDoji, CommonDoji, Northern, BullishCounterattack, BearishCounterattack, GapUp, GapDown}
 use Rattle.rule_types.specs.Label.{codeOf}
 use Rattle.rule_types.specs.Number.{labels}
 

@@ -1,7 +1,7 @@
 -- "The eighteen": codes of the labels, 0 to 37, and the short pairs.
 use Prim.Native.Nat.{ℕ}
-use Rattle.rule_types.specs.declared.label.Label.{Label, the-variants.Other, the-variants.Any, the-variants.Met, the-variants.Hammer, the-variants.HangingMan, the-variants.BullishEngulfing, the-variants.BearishEngulfing, the-variants.RisingThreeMethods, the-variants.FallingThreeMethods, the-variants.Bars5, the-variants.Bars6, the-variants.Bars7, the-variants.Bars8, the-variants.Bars9, the-variants.MorningStar, the-variants.EveningStar, the-variants.MiddleDoji, the-variants.FallingSeparatingLines, the-variants.RisingSeparatingLines, the-variants.ArrowOnString, the-variants.CandleInWind, the-variants.Bearish, the-variants.Bullish, the-variants.Bottom, the-variants.Top, the-variants.StandardBody, the-variants.Regular, the-variants.Strong, the-variants.HalfStrong, the-variants.DragonflyDoji, the-variants.GravestoneDoji, the-variants.LongLeggedDoji, the-variants.CommonDoji, the-variants.Northern, the-variants.BullishCounterattack, the-variants.BearishCounterattack, the-variants.GapUp, the-variants.GapDown}
-use Rattle.rule_types.specs.declared.label.Pair.{Pair}
+use Rattle.rule_types.specs.declared.label.{Label.Label, Pair.Pair}
+use Rattle.rule_types.specs.declared.label.Label.the-variants.{Other, Any, Met, Hammer, HangingMan, BullishEngulfing, BearishEngulfing, RisingThreeMethods, FallingThreeMethods, Bars5, Bars6, Bars7, Bars8, Bars9, MorningStar, EveningStar, MiddleDoji, FallingSeparatingLines, RisingSeparatingLines, ArrowOnString, CandleInWind, Bearish, Bullish, Bottom, Top, StandardBody, Regular, Strong, HalfStrong, DragonflyDoji, GravestoneDoji, LongLeggedDoji, CommonDoji, Northern, BullishCounterattack, BearishCounterattack, GapUp, GapDown}
 
 abbrev pub codeOf : Label → ℕ
 codeOf Other = 0

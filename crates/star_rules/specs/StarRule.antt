@@ -6,8 +6,8 @@ use lib.Dec.{leb}
 use lib.Ieee.{binary64, add, eq, mul, lt}
 use Rattle.measures.specs.Bar.{Bar, bodyOf, upperOf, lowerOf, dojiOf}
 use Rattle.measures.specs.Price.{zero, maxOf, minOf}
-use Rattle.rule_types.specs.declared.label.Label.{Label, the-variants.Other, the-variants.Any, the-variants.Met, the-variants.MorningStar, the-variants.EveningStar, the-variants.MiddleDoji, the-variants.DragonflyDoji, the-variants.GravestoneDoji, the-variants.LongLeggedDoji, the-variants.CommonDoji, the-variants.Northern}
-use Rattle.rule_types.specs.declared.label.Pair.{Pair}
+use Rattle.rule_types.specs.declared.label.{Label.Label, Pair.Pair}
+use Rattle.rule_types.specs.declared.label.Label.the-variants.{Other, Any, Met, MorningStar, EveningStar, MiddleDoji, DragonflyDoji, GravestoneDoji, LongLeggedDoji, CommonDoji, Northern}
 use Rattle.rule_types.specs.Label.{pairOf}
 use Rattle.rule_types.specs.Number.{two, three, wholeOf}
 

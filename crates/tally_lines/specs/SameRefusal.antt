@@ -12,8 +12,7 @@ use Rattle.text.specs.declared.line_text.Line.{Line, the-variants.Prices}
 use Rattle.text.specs.LineText.{lineOf}
 use Rattle.text.specs.Lines.{lineFeed, linesOf}
 use Rattle.label_lines.specs.declared.output.Stop.{Stop}
-use Rattle.label_lines.specs.Output as labels
-use Rattle.label_lines.specs.Output.{goesOn, refusalLine}
+use Rattle.label_lines.specs.Output.{goesOn, refusalLine, outputOf as labelsOutput}
 use Rattle.tally_lines.specs.Output.{tallyLines}
 use Rattle.tally_lines.specs.History.{historyTally, outputOf}
 
@@ -39,4 +38,4 @@ pub record Refused (labels tally : List ℕ) : Type 0 where
   pub last : labels ≡ rows ++ tally
 
 abbrev pub SameRefusal : List ℕ → Type 0
-SameRefusal input = Tabled [] (map lineOf (linesOf input)) (outputOf input) ⊎ Refused (labels.outputOf input) (outputOf input)
+SameRefusal input = Tabled [] (map lineOf (linesOf input)) (outputOf input) ⊎ Refused (labelsOutput input) (outputOf input)

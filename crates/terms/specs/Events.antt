@@ -9,10 +9,8 @@ use Rattle.measures.specs.declared.folds.Column.the-variants.{Close as CloseOf,
 use Rattle.measures.specs.Fold.{columnOf}
 use Rattle.trading_hours.specs.declared.hours.Hours.{Hours}
 use Rattle.trading_hours.specs.Hours.{termOf, sameTerm}
-use Rattle.terms.specs.declared.events.LastStamp.{LastStamp, the-variants.Never, the-variants.At}
-use Rattle.terms.specs.declared.events.OpenBar.{OpenBar, the-variants.Nothing, the-variants.Begun}
-use Rattle.terms.specs.declared.events.Carried.{Carried}
-use Rattle.terms.specs.declared.events.Step.{Step}
+use Rattle.terms.specs.declared.events.{LastStamp.LastStamp, OpenBar.OpenBar, OpenBar.the-variants.Nothing, OpenBar.the-variants.Begun, Carried.Carried, Step.Step}
+use Rattle.terms.specs.declared.events.LastStamp.the-variants.{Never, At}
 
 pub data Event : Type 0 where
   Minute : ℕ → Bar → Event

@@ -18,8 +18,7 @@ use Rattle.trading_hours.specs.declared.hours.Hours.{Hours}
 use Rattle.trading_hours.specs.Hours.{mostWindows, windowsOf, validHours, inHours, termOf, termLength}
 use Rattle.trading_hours.specs.TermRule.{Before}
 use Rattle.terms.specs.declared.events.LastStamp.{LastStamp, the-variants.Never}
-use Rattle.terms.specs.declared.layers.Layer.{Layer}
-use Rattle.terms.specs.declared.layers.Taken.{Taken}
+use Rattle.terms.specs.declared.layers.{Layer.Layer, Taken.Taken}
 use Rattle.terms.specs.Events.{Event, Close, nothingYet, endedOf, carriedOf, lastOf, stampsIn, minutesOf}
 use Rattle.terms.specs.Layer.{validLayer, runTried, closeTried, madeOf, endedIn, ranOf, ranSheet, closedOf, closedSheet}
 

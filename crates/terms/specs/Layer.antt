@@ -14,11 +14,9 @@ use Rattle.bar_box.specs.declared.boxes.BarBox.{BarBox}
 use Rattle.bar_box.specs.Box.{freshBox, feedTried, fedOf, sheetOf}
 use Rattle.trading_hours.specs.declared.hours.Hours.{Hours}
 use Rattle.trading_hours.specs.Hours.{dayMinutes, windowFrom, noWindow, hoursWith, withZeros, validHours, inHours, termLength}
-use Rattle.terms.specs.declared.events.LastStamp.{LastStamp, the-variants.Never, the-variants.At}
-use Rattle.terms.specs.declared.events.OpenBar.{OpenBar, the-variants.Nothing, the-variants.Begun}
-use Rattle.terms.specs.declared.events.Carried.{Carried}
-use Rattle.terms.specs.declared.layers.Layer.{Layer}
-use Rattle.terms.specs.declared.layers.Taken.{Taken}
+use Rattle.terms.specs.declared.events.{LastStamp.LastStamp, OpenBar.OpenBar, OpenBar.the-variants.Nothing, OpenBar.the-variants.Begun, Carried.Carried}
+use Rattle.terms.specs.declared.events.LastStamp.the-variants.{Never, At}
+use Rattle.terms.specs.declared.layers.{Layer.Layer, Taken.Taken}
 use Rattle.terms.specs.Events.{Event, Close, nothingYet, endedOf, carriedOf, minutesOf}
 
 -- ---- a fresh layer

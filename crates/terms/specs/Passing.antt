@@ -13,12 +13,9 @@ use Rattle.measures.specs.Bar.{pricesOf}
 use Rattle.trading_hours.specs.declared.hours.Hours.{Hours}
 use Rattle.trading_hours.specs.Hours.{validHours}
 use Rattle.trading_hours.specs.TermRule.{endOf}
-use Rattle.terms.specs.declared.events.LastStamp.{LastStamp, the-variants.Never, the-variants.At}
-use Rattle.terms.specs.declared.events.OpenBar.{OpenBar, the-variants.Nothing, the-variants.Begun}
-use Rattle.terms.specs.declared.events.Carried.{Carried}
+use Rattle.terms.specs.declared.events.{LastStamp.LastStamp, OpenBar.OpenBar, OpenBar.the-variants.Nothing, OpenBar.the-variants.Begun, Carried.Carried, Filled.Filled, Front.Front}
+use Rattle.terms.specs.declared.events.LastStamp.the-variants.{Never, At}
 use Rattle.terms.specs.declared.calls.Progress.{Progress}
-use Rattle.terms.specs.declared.events.Filled.{Filled}
-use Rattle.terms.specs.declared.events.Front.{Front}
 use Rattle.terms.specs.Events.{Event, endedOf, carriedOf}
 use Rattle.terms.specs.Layer.{soundCarried, stampsTried}
 

@@ -4,8 +4,7 @@ use mathlib.Core.Bool.{Bool, true, false, cond, _&&_, _||_}
 use mathlib.Core.List.{List, [], _∷_, _++_}
 use lib.Dec.{ltb, leb, eqb}
 use lib.ListN.{getD, take, replicate}
-use Rattle.trading_hours.specs.declared.hours.DayWindow.{DayWindow}
-use Rattle.trading_hours.specs.declared.hours.Hours.{Hours}
+use Rattle.trading_hours.specs.declared.hours.{DayWindow.DayWindow, Hours.Hours}
 
 -- ---- numbers
 
