@@ -32,8 +32,8 @@ use Rattle.exports.proofs.parts.feed_parts.Statement.{statement}
 use Rattle.exports.proofs.parts.feed_parts.Tie as tie
 
 -- the tally with rows counted, if that is asked for
-abbrev told : Bool → List ℕ → List TallyRow → List TallyRow
-told counts rows tally = cond counts (counted rows tally) tally
+abbrev brought : Bool → List ℕ → List TallyRow → List TallyRow
+brought counts rows tally = cond counts (counted rows tally) tally
 
 same : {A : Type 0} (b : Bool) (x : A) → cond b x x ≡ x
 same true x = refl
@@ -41,7 +41,7 @@ same false x = refl
 
 abbrev Inv-loop : tie.InvT-loop
 Inv-loop counts sizes prices sheet₀ total out₀ table₀ done₀ i₀ sheet out table done i = (done ≤ total) × (i ≤ length sizes + 1) × (length sizes < i → done ≡ total) × (length sheet ≡ length sheet₀)
-    × (out .after ≡ takenIn (out₀ .after) (take done (barsOf prices))) × (table ≡ told counts (rowsFrom (out₀ .after) (take done (barsOf prices))) table₀) × (sheet ≡ overlay sheet₀ 0 (rowsFrom (out₀ .after) (take done (barsOf prices))))
+    × (out .after ≡ takenIn (out₀ .after) (take done (barsOf prices))) × (table ≡ brought counts (rowsFrom (out₀ .after) (take done (barsOf prices))) table₀) × (sheet ≡ overlay sheet₀ 0 (rowsFrom (out₀ .after) (take done (barsOf prices))))
 
 abbrev μ-loop : tie.MeasureT-loop
 μ-loop counts sizes prices sheet₀ total out₀ table₀ done₀ i₀ sheet out table done i = length sizes + 1 - i
@@ -162,7 +162,7 @@ loop-again c =
     let same-size = length-written (args .b) bars (args .sheet .now) (passed + n) (omega (arith, room counted-all, counted-all .count .ensures)) in
     ⊎-elim
     (λ w.
-    let table = inv .5 ∙ ap (λ (x : Bool). told x (rowsFrom (args .b) (take passed bars)) (args .tally)) (w .0 .taken) in
+    let table = inv .5 ∙ ap (λ (x : Bool). brought x (rowsFrom (args .b) (take passed bars)) (args .tally)) (w .0 .taken) in
     let next : w .1 .result ≡ record { verdict = Accepted; after = takenIn (args .b) (take (passed + n) bars); tally = counted fed-now (args .tally) } = w .1 .ensures .0 ∙ rw (inv .4, table) (next-tallied (args .b) all (args .tally) (args .prices .now) (args .sheet .now) s e passed n enough (inv .3) (inv .6) shaped) in
     let sheet : c .if1 .sheet ≡ overlay (args .sheet .now) 0 fed-now = w .6 ∙ rw (w .1 .ensures .1, inv .4, table) (next-tallied-sheet (args .b) all (args .tally) (args .prices .now) (args .sheet .now) s e passed n enough (inv .3) (inv .6) shaped) in (
       omega (arith, part .part-size .ensures .1),
@@ -170,7 +170,7 @@ loop-again c =
       all-fed part,
       ap length sheet ∙ same-size,
       ap (λ (o : Outcome). o .after) (w .7) ∙ ap (λ (o : Tallied). o .after) next,
-      w .8 ∙ ap (λ (o : Tallied). o .tally) next ∙ sym (ap (λ (x : Bool). told x fed-now (args .tally)) (w .0 .taken)),
+      w .8 ∙ ap (λ (o : Tallied). o .tally) next ∙ sym (ap (λ (x : Bool). brought x fed-now (args .tally)) (w .0 .taken)),
       sheet,
     ))
     (λ w.
@@ -180,7 +180,7 @@ loop-again c =
       all-fed part,
       ap length sheet ∙ same-size,
       ap (λ (o : Outcome). o .after) (w .5 ∙ w .1 .ensures .0) ∙ rw (inv .4) (next-box (args .b) all (args .tally) (args .prices .now) (args .sheet .now) s e passed n enough (inv .3) (inv .6)),
-      w .6 ∙ inv .5 ∙ ap (λ (x : Bool). told x (rowsFrom (args .b) (take passed bars)) (args .tally)) (w .0 .left) ∙ sym (ap (λ (x : Bool). told x fed-now (args .tally)) (w .0 .left)),
+      w .6 ∙ inv .5 ∙ ap (λ (x : Bool). brought x (rowsFrom (args .b) (take passed bars)) (args .tally)) (w .0 .left) ∙ sym (ap (λ (x : Bool). brought x fed-now (args .tally)) (w .0 .left)),
       sheet,
     ))
     (c .if1 .came)
