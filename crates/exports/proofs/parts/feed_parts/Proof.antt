@@ -174,7 +174,7 @@ loop-again c =
       sheet,
     ))
     (λ w.
-    let sheet : c .if1 .sheet ≡ overlay (args .sheet .now) 0 fed-now = w .4 ∙ rw (w .1 .ensures .1, inv .4) (next-sheet (args .b) all (args .tally) (args .prices .now) (args .sheet .now) s e passed n enough (inv .3) (inv .6)) in (
+    let sheet : c .if1 .sheet ≡ overlay (args .sheet .now) 0 fed-now = w .4 ∙ rw (w .1 .ensures .1 .0, inv .4) (next-sheet (args .b) all (args .tally) (args .prices .now) (args .sheet .now) s e passed n enough (inv .3) (inv .6)) in (
       omega (arith, part .part-size .ensures .1),
       omega arith,
       all-fed part,
