@@ -17,7 +17,7 @@ use Rattle.rule_types.specs.declared.label.Label.{Label, the-variants.Other}
 use Rattle.rule_types.specs.declared.label.Pair.{Pair}
 use Rattle.rule_types.specs.Label.{codeOf, pairOf, pairA}
 use Rattle.growing_rules.specs.GrowingRule.{sizeLabel, firstMatch, threeMethods, sanFaV20221118, tower, taXing, insertOf, bodiesDown, bodiesUp, lastButOne, bodiesKnown}
-use Rattle.growing_rules.specs.Middle.{leadersOf, joined}
+use Rattle.growing_rules.specs.Middle.{leadersOf, bodyJoined}
 
 -- ---- the search, a size more: what was found stands; where nothing was, the window of that size decides
 
@@ -121,8 +121,8 @@ insert-second x (a ∷ l) = go (lt x a)
     go true = insert-first x l
     go false = refl
 
-pub leaders-grow : (b : Bar) (s : List Bar) → leadersOf (b ∷ s) ≡ joined (bodyOf b) (leadersOf s)
-unfolding leadersOf joined bodiesDown bodiesKnown
+pub leaders-grow : (b : Bar) (s : List Bar) → leadersOf (b ∷ s) ≡ bodyJoined (bodyOf b) (leadersOf s)
+unfolding leadersOf bodyJoined bodiesDown bodiesKnown
 leaders-grow b s = simp (insert-first (bodyOf b) (bodiesDown s), insert-second (bodyOf b) (bodiesDown s))
 
 -- the last but one in non-falling order is the second in non-rising order, which the scan carries

@@ -102,8 +102,8 @@ unfoldable pub leadersOf : List Bar → Leaders
 leadersOf s = record { first = getD (bodiesDown s) 0 nan; second = getD (bodiesDown s) 1 nan; known = bodiesKnown s }
 
 -- an older bar's body x comes in front
-unfoldable pub joined : Float → Leaders → Leaders
-joined x l = record {
+unfoldable pub bodyJoined : Float → Leaders → Leaders
+bodyJoined x l = record {
   first = cond (lt x (l .first)) (l .first) x;
   second = cond (lt x (l .first)) (cond (lt x (l .second)) (l .second) x) (l .first);
   known = not (isNan x) && l .known;

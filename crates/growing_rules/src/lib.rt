@@ -9,7 +9,7 @@ ghost use Rattle.measures.specs.Bar.{barsOf};
 ghost use Rattle.measures.specs.Window.{backOf};
 ghost use Rattle.growing_rules.specs.declared.Shape.the-variants as shapes;
 ghost use Rattle.growing_rules.specs.GrowingRule.{sizeLabel, firstMatch, firstOf, lastOf, innerOf, threeMethods, sanFaV20221118, endsLead, tower as towerOf, taXing, growingOf};
-ghost use Rattle.growing_rules.specs.Middle.{leadersOf, joined, checkOf, middleOf, middleAt, mayRise, mayFall, mayBeTop, mayBeBottom, mayBe, beyond as beyondOf, noMatch, foundOf, searchedOf};
+ghost use Rattle.growing_rules.specs.Middle.{leadersOf, bodyJoined, checkOf, middleOf, middleAt, mayRise, mayFall, mayBeTop, mayBeBottom, mayBe, beyond as beyondOf, noMatch, foundOf, searchedOf};
 use measures::Bar;
 use measures::Column;
 use middle::Middle;
@@ -143,7 +143,7 @@ fn no_leaders() -> Leaders
 
 // An older bar's body joins.
 fn join(l: Leaders, x: f64) -> Leaders
-    ensures { λ r. ⌜ r ≡ joined x l ⌝ }
+    ensures { λ r. ⌜ r ≡ bodyJoined x l ⌝ }
 {
     let behind = x < l.first;
     Leaders {

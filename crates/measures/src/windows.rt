@@ -1,4 +1,4 @@
-// Bars and windows of lent prices. Only this module knows that a bar is four prices.
+// Bars and windows of lent prices. Only this module reads and writes the four prices of a bar.
 ghost use mathlib.Core.Path.{_≡_};
 ghost use Prim.Native.Nat as Nat;
 ghost use Prim.Native.Nat.{_+_, _-_, _<_, _≤_};

@@ -14,7 +14,7 @@ use Rattle.trading_hours.specs.declared.hours.Hours.{Hours}
 use Rattle.trading_hours.proofs.HourLaws.{both}
 use Rattle.terms.specs.declared.events.OpenBar.{OpenBar, the-variants.Nothing, the-variants.Begun}
 use Rattle.terms.specs.declared.events.Carried.{Carried}
-use Rattle.terms.specs.Events.{Event, Minute, Close, openBars, endedAt, carriedAt, endedOf, carriedOf, lastOf, minutesOf, minuteStep}
+use Rattle.terms.specs.Events.{Event, Minute, Close, openBars, endedAt, carriedAt, endedOf, carriedOf, stampAfter, minutesOf, minuteStep}
 use Rattle.terms.specs.Passing.{roomBars, someIn}
 
 pub few-in : (p : OpenBar) → length (openBars p) ≤ 1
@@ -44,8 +44,8 @@ module _ (h : Hours) (m : ℕ) where
   carried-one c e = refl
 
   -- the stamp that is kept is that of the last bar
-  pub carried-last : (c : Carried) (es : List Event) → carriedOf h m c es .last ≡ lastOf (c .last) es
-  unfolding carriedOf lastOf minuteStep
+  pub carried-last : (c : Carried) (es : List Event) → carriedOf h m c es .last ≡ stampAfter (c .last) es
+  unfolding carriedOf stampAfter minuteStep
   carried-last c [] = refl
   carried-last c (Minute s b ∷ es) = carried-last (carriedAt h m c (Minute s b)) es
   carried-last c (Close ∷ es) = carried-last (carriedAt h m c Close) es

@@ -18,7 +18,7 @@ use Rattle.trading_hours.specs.Hours.{inHours}
 use Rattle.terms.specs.declared.events.LastStamp.{LastStamp, the-variants.Never, the-variants.At}
 use Rattle.terms.specs.declared.events.OpenBar.{OpenBar, the-variants.Nothing}
 use Rattle.terms.specs.declared.events.Carried.{Carried}
-use Rattle.terms.specs.Events.{Event, Minute, Close, carriedAt, carriedOf, minuteStep, lastOf, stampsIn, minutesOf}
+use Rattle.terms.specs.Events.{Event, Minute, Close, carriedAt, carriedOf, minuteStep, stampAfter, stampsIn, minutesOf}
 use Rattle.terms.specs.Layer.{above, stampsTried, soundCarried}
 
 module _ (h : Hours) where
@@ -80,8 +80,8 @@ module _ (h : Hours) where
   -- ---- the stamps of events
 
   pub stamps-append : (last : LastStamp) (es new : List Event) → firstTrue (stampsTried h last (stampsIn es)) ≡ Accepted
-      → firstTrue (stampsTried h (lastOf last es) (stampsIn new)) ≡ Accepted → firstTrue (stampsTried h last (stampsIn (es ++ new))) ≡ Accepted
-  unfolding stampsIn lastOf
+      → firstTrue (stampsTried h (stampAfter last es) (stampsIn new)) ≡ Accepted → firstTrue (stampsTried h last (stampsIn (es ++ new))) ≡ Accepted
+  unfolding stampsIn stampAfter
   stamps-append last [] new p q = q
   stamps-append last (Minute s b ∷ es) new p q =
       let first = first-passed last s (stampsIn es) p in

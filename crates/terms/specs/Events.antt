@@ -81,10 +81,10 @@ carriedOf h m c [] = c
 carriedOf h m c (e ∷ es) = carriedOf h m (carriedAt h m c e) es
 
 -- the stamp of the last bar in a list of events after a last stamp; a close leaves it
-unfoldable pub lastOf : LastStamp → List Event → LastStamp
-lastOf last [] = last
-lastOf last (Minute stamp b ∷ es) = lastOf (At stamp) es
-lastOf last (Close ∷ es) = lastOf last es
+unfoldable pub stampAfter : LastStamp → List Event → LastStamp
+stampAfter last [] = last
+stampAfter last (Minute stamp b ∷ es) = stampAfter (At stamp) es
+stampAfter last (Close ∷ es) = stampAfter last es
 
 -- the stamps of its bars
 unfoldable pub stampsIn : List Event → List ℕ

@@ -19,7 +19,7 @@ use Rattle.trading_hours.specs.Hours.{mostWindows, windowsOf, validHours, inHou
 use Rattle.trading_hours.specs.TermRule.{Before}
 use Rattle.terms.specs.declared.events.LastStamp.{LastStamp, the-variants.Never}
 use Rattle.terms.specs.declared.layers.{Layer.Layer, Taken.Taken}
-use Rattle.terms.specs.Events.{Event, Close, nothingYet, endedOf, carriedOf, lastOf, stampsIn, minutesOf}
+use Rattle.terms.specs.Events.{Event, Close, nothingYet, endedOf, carriedOf, stampAfter, stampsIn, minutesOf}
 use Rattle.terms.specs.Layer.{validLayer, runTried, closeTried, madeOf, endedIn, ranOf, ranSheet, closedOf, closedSheet}
 
 -- what a call is lent: a run prices, one stamp a bar, and a sheet; a close a sheet
@@ -46,7 +46,7 @@ module _ (t : Thresholds) (h : Hours) (m : ℕ) where
   -- a call is refused exactly as the list of refusals says, with the stamp of the last bar of the events and the count of the term bars that
   -- ended in them; 12 is for the hours and the term length alone
   abbrev pub verdictOn : List Event → Call → Verdict
-  verdictOn es x = verdictBy t (validHours h && termLength m) h (lastOf Never es) (length (endedOf h m nothingYet es)) x
+  verdictOn es x = verdictBy t (validHours h && termLength m) h (stampAfter Never es) (length (endedOf h m nothingYet es)) x
 
   -- it then leaves the list as it is; any other call appends its bars, or its close
   abbrev pub appended : List Event → Call → List Event
@@ -121,7 +121,7 @@ pub record Holds (l : Layer) (xs : List Call) (es : List Event) (ended : List Ba
   pub demand-3 : BoxHolds (l .inner) (oneFeed ended sheet ∷ []) ended sheet
   -- (d) the kept stamp and the open term bar are those of the events; hours and term length stay
   pub same-carried : layerAfter l xs .carried ≡ carriedOf (l .hours) (l .minutes) nothingYet es
-  pub same-stamp : layerAfter l xs .carried .last ≡ lastOf Never es
+  pub same-stamp : layerAfter l xs .carried .last ≡ stampAfter Never es
   pub same-hours : layerAfter l xs .hours ≡ l .hours
   pub same-minutes : layerAfter l xs .minutes ≡ l .minutes
 

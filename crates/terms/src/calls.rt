@@ -19,22 +19,27 @@ use crate::layers::Layer;
 use crate::layers::Taken;
 use crate::verdicts;
 use bar_box::BarBox;
+use bar_box::Outcome;
 use recognisers::Thresholds;
+use recognisers::call::Verdict;
 use recognisers::counts::ROW_BYTES;
 use trading_hours::Hours;
 
-// Feeds the first n bars of a run of prices; their rows go to a row of the sheet and those after it.
-fn feed_front(b: BarBox, run: &[f64], n: usize, sheet: &mut [u8], row: usize) -> BarBox
+// Feeds the first n bars of a run of prices; their rows go to a row of the sheet and those after it. What the feed hands back is handed on: a
+// box that is taken out of it is copied.
+fn feed_front(b: BarBox, run: &[f64], n: usize, sheet: &mut [u8], row: usize) -> Outcome
     requires { ⌜ (1 ≤ n → feedVerdict (b .thresholds) (b .count) (4 * n) (rowBytes * n) ≡ Accepted) × ((4 * n ≤ length (now run)) × (rowBytes * (row + n) ≤ length (now sheet))) ⌝ }
-    ensures { λ r. ⌜ (r ≡ takenIn b (barsOf (take (4 * n) (now (run .entry))))) × (now (sheet .exit) ≡ overlay (now (sheet .entry)) (rowBytes * row) (rowsOf (b .thresholds) (b .count) (kept b) (barsOf (take (4 * n) (now (run .entry)))))) ⌝ }
+    ensures { λ r. ⌜ (r .after ≡ takenIn b (barsOf (take (4 * n) (now (run .entry))))) × (now (sheet .exit) ≡ overlay (now (sheet .entry)) (rowBytes * row) (rowsOf (b .thresholds) (b .count) (kept b) (barsOf (take (4 * n) (now (run .entry)))))) ⌝ }
 {
     if n == 0 {
-        return b;
+        return Outcome {
+            after: b,
+            verdict: Verdict::Accepted,
+        };
     }
     let end = 4 * n;
     let at = ROW_BYTES * row;
-    let out = bar_box::feed(b, &run[..end], &mut sheet[at..]);
-    out.after
+    bar_box::feed(b, &run[..end], &mut sheet[at..])
 }
 
 // What is carried on, the box, and how many rows were filled.
@@ -67,7 +72,8 @@ fn take_bars(
     let mut done = 0usize;
     while done < n {
         let f = events::fill(h, m, carried, prices, stamps, done, &mut run);
-        inner = feed_front(inner, &run, f.count, sheet, rows);
+        let fed = feed_front(inner, &run, f.count, sheet, rows);
+        inner = fed.after;
         let next = f.carried;
         carried = next;
         rows += f.count;
@@ -152,7 +158,9 @@ pub fn close(l: Layer, sheet: &mut [u8]) -> Taken
     let rows = events::put_ended(events::ended_by(verdict, pending), &mut run, 0);
     let b = l.inner;
     let mut after = l;
-    after.inner = feed_front(b, &run, rows, sheet, 0);
+    let fed = feed_front(b, &run, rows, sheet, 0);
+    let inner = fed.after;
+    after.inner = inner;
     after.carried = events::closed_by(verdict, c);
     Taken {
         after,

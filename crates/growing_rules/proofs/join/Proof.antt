@@ -1,10 +1,10 @@
 -- The code is the definition.
-use Rattle.growing_rules.specs.Middle.{joined}
+use Rattle.growing_rules.specs.Middle.{bodyJoined}
 use Rattle.growing_rules.proofs.join.Statement.{statement}
 use Rattle.growing_rules.proofs.join.Tie as tie
 
 returns : tie.Need-returns
-unfolding joined
+unfolding bodyJoined
 returns c =
     simp (
       c .before .is-nan .ensures,

@@ -73,19 +73,19 @@ feed-front-requires c κs =
 
 add-rows : tie.Need-add-rows Inv-loop μ-loop
 add-rows c =
-    let filled = c .before .before .before .before .before .before .before .before in
+    let filled = c .before .before .before .before .before .before .before .before .before in
     let inv = filled .before .before .before .loop .inv in
     omega (arith, part filled .few)
 
 add-done : tie.Need-add-done Inv-loop μ-loop
-add-done c = let fit = part (c .before .before .before .before .before .before .before .before .before) in omega (arith, fit .within, fit .most)
+add-done c = let fit = part (c .before .before .before .before .before .before .before .before .before .before) in omega (arith, fit .within, fit .most)
 
 loop-less : tie.Need-loop-less Inv-loop μ-loop
-loop-less c = let fit = part (c .before .before .before .before .before .before .before .before .before) in omega (arith, fit .within, fit .some)
+loop-less c = let fit = part (c .before .before .before .before .before .before .before .before .before .before) in omega (arith, fit .within, fit .some)
 
 loop-again : tie.Need-loop-again Inv-loop μ-loop
 loop-again c =
-    let filled = c .before .before .before .before .before .before .before .before .before in
+    let filled = c .before .before .before .before .before .before .before .before .before .before in
     let inside = filled .before .before in
     let at-loop = inside .before in
     let start = at-loop .before .before .before .before in
@@ -100,7 +100,7 @@ loop-again c =
     let old = endedOf (args .h) (args .m) (args .c) (take passed es) in
     let new = endedOf (args .h) (args .m) (carriedOf (args .h) (args .m) (args .c) (take passed es)) (take (f .passed) (drop passed es)) in
     let both-are = ended-more (args .h) (args .m) (args .c) es passed (f .passed) in
-    let fed = c .before .before .before .before .before in
+    let fed = c .before .before .before .before .before .before in
     let b = args .b in
     let all : length (b .bars) ≡ places = simp length-map at (start .good .0 .1 .1 .1 .1 .0 .1 .0 .1) in
     let front = ap barsOf (by .prices) ∙ bars-prices new in (
