@@ -27,12 +27,13 @@ pub record Tabled (history : List Bar) (lines : List Line) (tally : List ℕ) : 
   pub few : length (history ++ bars) ≤ mostBars
   pub prints : tally ≡ tallyLines 0 (historyTally (history ++ bars))
 
--- a refusal line is printed and nothing else, and the labels program prints it last
+-- a refusal line, which is one line, is printed and nothing else, and the labels program prints it last
 pub record Refused (labels tally : List ℕ) : Type 0 where
   pub ordinal : ℕ
   pub stop : Stop
   pub refused : goesOn stop ≡ false
   pub prints : tally ≡ refusalLine ordinal stop
+  pub one-line : (line : List ℕ) × (linesOf tally ≡ line ∷ [])
   pub rows : List ℕ
   pub whole : WholeLines rows
   pub last : labels ≡ rows ++ tally
