@@ -22,7 +22,7 @@ use Rattle.recognisers.proofs.TableLaws.{no-bar}
 use Rattle.bar_box.specs.declared.boxes.BarBox.{BarBox}
 use Rattle.bar_box.specs.Sheet.{rowsOf}
 use Rattle.bar_box.specs.Box.{keptBar, numbered, takenIn, emptyPlace, emptyPlaces, freshBox, madeBy, madeOf, lookAnswerOf}
-use Rattle.bar_box.specs.History.{Feed, historyAfter, boxAfter, verdictsOf, joinedRows, printed, barWith, inPlace, InLimits, Within, Holds, NoBars, Fresh, Demand3}
+use Rattle.bar_box.specs.History.{Feed, historyAfter, boxAfter, joinedRows, printed, barWith, inPlace, InLimits, Within, Holds, NoBars, Fresh, Demand3}
 use Rattle.bar_box.proofs.SheetLaws.{length-rows}
 use Rattle.bar_box.proofs.OrdinalLaws.{length-numbered, place-at}
 use Rattle.bar_box.proofs.BoxLaws.{drop-replicate}

@@ -5,7 +5,7 @@ use mathlib.Core.List.{List, [], _∷_, _++_, append-assoc}
 use native.Mathlib.Omega.{arith}
 use native.Mathlib.Numerals.{add-one}
 use lib.ListN.{length, getD, take, drop, set, length-append, length-drop}
-use lib.Seq.{take-suc, take-add, length-take-le, getD-drop}
+use lib.Seq.{take-suc, take-add, length-take-le}
 use Rattle.measures.specs.Bar.{Bar, noBar, overlay}
 use Rattle.recognisers.specs.Threshold.{Thresholds}
 use Rattle.recognisers.specs.Number.{rowBytes}

@@ -19,7 +19,6 @@ use Rattle.bar_box.specs.History.{Feed, fed}
 use Rattle.bar_box.proofs.SheetLaws.{length-rows}
 use Rattle.bar_box.proofs.FeedSteps.{none-true}
 use Rattle.tallies.specs.declared.table.TallyRow.{TallyRow}
-use Rattle.tallies.specs.declared.feeds.Tallied.{Tallied}
 use Rattle.tallies.specs.Tally.{addsUp, counted}
 use Rattle.tallies.specs.Feed.{tallyVerdict, verdictWith, talliedOf}
 

@@ -19,7 +19,7 @@ use Rattle.bar_box.specs.Sheet.{rowsOf}
 use Rattle.bar_box.specs.Box.{takenIn, fedOf, sheetOf}
 use Rattle.recognisers.specs.Refusal.{leaves}
 use Rattle.bar_box.specs.Calls.{after, each}
-use Rattle.bar_box.specs.History.{Feed, verdictOn, appended, historyAfter, fed, boxLeft, boxAfter, verdictsOf, rowsIn, joinedRows, oneFeed, NoBars}
+use Rattle.bar_box.specs.History.{Feed, verdictOn, appended, historyAfter, fed, boxLeft, rowsIn, joinedRows, oneFeed, NoBars}
 use Rattle.bar_box.proofs.SheetLaws.{length-rows, rows-append}
 use Rattle.bar_box.proofs.RowPairs.{pair-in}
 use Rattle.bar_box.proofs.FeedSteps.{count-after, verdict-step, box-step, rows-step}
@@ -29,7 +29,7 @@ use Rattle.bar_box.proofs.Demand3.{demand-3}
 use Rattle.tallies.specs.declared.table.TallyRow.{TallyRow}
 use Rattle.tallies.specs.Tally.{freshTally, countsOf, cellOf, addsUp, v1In, rowsWith, gained, counted}
 use Rattle.tallies.specs.Feed.{verdictWith, talliedOf, talliedSheet}
-use Rattle.tallies.specs.History.{WithTally, bothLeft, boxWith, tallyAfter, verdictsWith, sheetsWith, rowsWritten, rowsAfter, sheetsOf, barsWith, TallyHolds, Tallies}
+use Rattle.tallies.specs.History.{WithTally, bothLeft, tallyAfter, rowsWritten, barsWith, TallyHolds, Tallies}
 use Rattle.tallies.proofs.PlaceLaws.{at-place}
 use Rattle.tallies.proofs.TallyLaws.{row-adds, counts-gained, gained-same}
 use Rattle.tallies.proofs.CountLaws.{count-same}

@@ -1,12 +1,11 @@
 -- The loop's invariant: the rows of the bars passed stand from the place on. Assumes nothing.
-use Prim.Native.Nat.{_+_, _-_, _*_, _≤_}
+use Prim.Native.Nat.{_-_, _≤_}
 use mathlib.Core.Path.{_≡_, refl, sym, _∙_}
 use native.Mathlib.Omega.{arith}
 use borrow.Author.Needs.{needs}
 use lib.ListN.{length, take, drop, length-drop}
 use lib.Seq.{take-all}
 use Rattle.measures.specs.Bar.{barsOf, overlay}
-use Rattle.measures.proofs.RunLaws.{length-bars}
 use Rattle.bar_box.specs.Sheet.{rowOf, rowsOf}
 use Rattle.measures.proofs.Overlay.{overlay-none}
 use Rattle.bar_box.proofs.RowLaws.{overlay-row}

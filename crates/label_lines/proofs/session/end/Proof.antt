@@ -1,10 +1,8 @@
 -- A line that has begun is stepped over; else nothing is printed. Assumes nothing.
-use mathlib.Core.Bool.{not}
 use mathlib.Core.Path.{sym, _∙_}
 use native.Mathlib.Omega.{arith}
 use borrow.Author.Needs.{needs}
 use borrow.Author.Tests.{leb-true, not-true}
-use lib.Dec.{leb}
 use lib.ListN.{length}
 use Rattle.measures.proofs.Overlay.{overlay-none}
 use Rattle.text.proofs.RunLaws.{both}
