@@ -106,15 +106,15 @@ allUpTo history di = take (upTo (length history) di) history
 unfoldable pub pairAt : ℕ → Thresholds → ℕ → List Bar → ℕ → Pair
 pairAt k t len history di = judgeOf k t len (upTo len di) (allUpTo history di) (windowOf history gateEnd quarterBars)
 
--- 13 and 14 there as 01 has them, whose th counts units
+-- 13 and 14 there as 01 has them, whose th counts units; p and short pair are the table's
 abbrev pub szxIn01 : ℕ → ℕ → List Bar → ℕ → Pair
 szxIn01 th len history di =
-    let w = allUpTo history di in cond (ltb (upTo len di) 11) pairA (szxBy (dojiAbove (wholeOf th)) (backOf w 1) (backOf w 2))
+    let w = allUpTo history di in cond (ltb (upTo len di) (tableRow 13 .from)) (tableRow 13 .short) (szxBy (dojiAbove (wholeOf th)) (backOf w 1) (backOf w 2))
 
 abbrev pub sanSzxIn01 : ℕ → ℕ → List Bar → ℕ → Pair
 sanSzxIn01 th len history di =
     let w = allUpTo history di in
-    cond (ltb (upTo len di) 8) pairB (sanSzxBy (dojiAbove (wholeOf th)) (backOf w 1) (backOf w 2) (backOf w 3) (backOf w 4) (backOf w 5))
+    cond (ltb (upTo len di) (tableRow 14 .from)) (tableRow 14 .short) (sanSzxBy (dojiAbove (wholeOf th)) (backOf w 1) (backOf w 2) (backOf w 3) (backOf w 4) (backOf w 5))
 
 -- ---- all eighteen at once
 
