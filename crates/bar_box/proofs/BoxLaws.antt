@@ -11,23 +11,16 @@ use lib.Seq.{take-all, take-append-seam, drop-append-add, drop-drop}
 use Rattle.measures.specs.Bar.{Bar}
 use Rattle.measures.specs.Window.{newest}
 use Rattle.recognisers.specs.Number.{places}
-use Rattle.bar_box.specs.declared.boxes.KeptBar.{KeptBar}
-use Rattle.bar_box.specs.declared.boxes.BarBox.{BarBox}
+use Rattle.box_record.specs.declared.boxes.KeptBar.{KeptBar}
+use Rattle.box_record.specs.declared.boxes.BarBox.{BarBox}
 use Rattle.bar_box.specs.Box.{numbered, held, kept, laid, takenIn}
+pub use Rattle.box_record.proofs.RecordLaws.{take-same}
 use Rattle.bar_box.proofs.SheetLaws.{newest-append}
 use Rattle.bar_box.proofs.OrdinalLaws.{map-newest, length-numbered, bars-numbered, numbered-append}
 
 -- ---- lists
 
 module _ {A : Type 0} where
-  -- past a list's end nothing more is taken
-  pub take-same : (l : List A) (i j : ℕ) → min i (length l) ≡ min j (length l) → take i l ≡ take j l
-  take-same l i j e =
-      elim (decLe (length l) i) [
-        | yes past ↦ take-all i l past ∙ sym (take-all j l (omega arith))
-        | no within ↦ (let same : i ≡ j = omega arith in rw same)
-      ]
-
   -- past a list's end nothing is left
   pub drop-same : (l : List A) (i j : ℕ) → min i (length l) ≡ min j (length l) → drop i l ≡ drop j l
   drop-same l i j e =

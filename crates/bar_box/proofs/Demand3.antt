@@ -12,14 +12,14 @@ use Rattle.measures.specs.Bar.{Bar}
 use Rattle.measures.specs.Window.{newest, backOf}
 use Rattle.measures.proofs.WindowLaws.{upTo-in, upTo-out}
 use Rattle.recognisers.specs.Threshold.{Thresholds, standardSet, validOf}
-use Rattle.recognisers.specs.declared.call.Refusal.the-variants.{BadThreshold}
-use Rattle.recognisers.specs.declared.call.Verdict.the-variants.{Accepted, Denied}
-use Rattle.recognisers.specs.declared.call.LookAnswer.the-variants.{Judged}
+use Rattle.answers.specs.declared.refusals.Refusal.the-variants.{BadThreshold}
+use Rattle.answers.specs.declared.refusals.Verdict.the-variants.{Accepted, Denied}
+use Rattle.answers.specs.declared.LookAnswer.the-variants.{Judged}
 use Rattle.recognisers.specs.Number.{recognisers, rowBytes, gated, places, farthestLook}
 use Rattle.recognisers.specs.Table.{tableRow, pairAt, codesOf}
 use Rattle.recognisers.specs.Refusal.{firstTrue}
 use Rattle.recognisers.proofs.TableLaws.{no-bar}
-use Rattle.bar_box.specs.declared.boxes.BarBox.{BarBox}
+use Rattle.box_record.specs.declared.boxes.BarBox.{BarBox}
 use Rattle.bar_box.specs.Sheet.{rowsOf}
 use Rattle.bar_box.specs.Box.{keptBar, numbered, takenIn, emptyPlace, emptyPlaces, freshBox, madeBy, madeOf, lookAnswerOf}
 use Rattle.bar_box.specs.History.{Feed, historyAfter, boxAfter, joinedRows, printed, barWith, inPlace, InLimits, Within, Holds, NoBars, Fresh, Demand3}

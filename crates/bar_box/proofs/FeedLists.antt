@@ -11,9 +11,9 @@ use lib.ListN.{length, length-append}
 use Rattle.measures.specs.Bar.{Bar, barsOf, pricesOf}
 use Rattle.measures.proofs.RunLaws.{length-bars}
 use Rattle.recognisers.specs.Threshold.{Thresholds, validOf}
-use Rattle.recognisers.specs.declared.call.Verdict.{Verdict, the-variants.Accepted, the-variants.Denied}
+use Rattle.answers.specs.declared.refusals.Verdict.{Verdict, the-variants.Accepted, the-variants.Denied}
 use Rattle.recognisers.specs.Number.{rowBytes, mostBars}
-use Rattle.bar_box.specs.declared.boxes.BarBox.{BarBox}
+use Rattle.box_record.specs.declared.boxes.BarBox.{BarBox}
 use Rattle.bar_box.specs.Sheet.{rowsOf}
 use Rattle.bar_box.specs.Box.{takenIn}
 use Rattle.recognisers.specs.Refusal.{leaves}

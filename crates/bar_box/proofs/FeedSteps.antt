@@ -14,12 +14,12 @@ use Rattle.measures.specs.Bar.{Bar, barsOf, overlay}
 use Rattle.measures.specs.Window.{newest}
 use Rattle.measures.proofs.RunLaws.{length-bars}
 use Rattle.recognisers.specs.Threshold.{Thresholds, validOf}
-use Rattle.recognisers.specs.declared.call.Verdict.{Verdict, the-variants.Accepted, the-variants.Denied}
+use Rattle.answers.specs.declared.refusals.Verdict.{Verdict, the-variants.Accepted, the-variants.Denied}
 use Rattle.recognisers.specs.Number.{rowBytes, mostBars, places}
-use Rattle.recognisers.specs.Refusal.{Tried, firstTrue, leaves}
-use Rattle.bar_box.specs.declared.boxes.BarBox.{BarBox}
+use Rattle.recognisers.specs.Refusal.{Tried, firstTrue, leaves, feedTried, feedVerdict}
+use Rattle.box_record.specs.declared.boxes.BarBox.{BarBox}
 use Rattle.bar_box.specs.Sheet.{rowsOf}
-use Rattle.bar_box.specs.Box.{kept, takenIn, feedTried, feedVerdict, fedOf, sheetOf}
+use Rattle.bar_box.specs.Box.{kept, takenIn, fedOf, sheetOf}
 use Rattle.bar_box.specs.History.{Feed, verdictOn, appended, fed, rowsIn, NoBars}
 use Rattle.measures.proofs.Overlay.{overlay-none}
 use Rattle.bar_box.proofs.SheetLaws.{length-rows, rows-newest}

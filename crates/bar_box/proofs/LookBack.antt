@@ -12,15 +12,15 @@ use Rattle.measures.specs.Bar.{Bar}
 use Rattle.measures.specs.Window.{upTo, windowOf}
 use Rattle.measures.proofs.WindowLaws.{upTo-one}
 use Rattle.recognisers.specs.Threshold.{Thresholds, validOf}
-use Rattle.recognisers.specs.declared.call.Verdict.the-variants.{Accepted}
-use Rattle.recognisers.specs.declared.call.LookAnswer.the-variants.{Judged}
+use Rattle.answers.specs.declared.refusals.Verdict.the-variants.{Accepted}
+use Rattle.answers.specs.declared.LookAnswer.the-variants.{Judged}
 use Rattle.recognisers.specs.Number.{recognisers, gated, reachBars, mostBars, farthestLook}
 use Rattle.recognisers.specs.Table.{pairAt}
-use Rattle.recognisers.specs.Refusal.{firstTrue}
+use Rattle.recognisers.specs.Refusal.{firstTrue, lookVerdict}
 use Rattle.recognisers.proofs.Reach as reach
 use Rattle.recognisers.proofs.TableLaws.{judge-gateless}
-use Rattle.bar_box.specs.declared.boxes.BarBox.{BarBox}
-use Rattle.bar_box.specs.Box.{takenIn, lookVerdict, lookOf, lookAnswerOf}
+use Rattle.box_record.specs.declared.boxes.BarBox.{BarBox}
+use Rattle.bar_box.specs.Box.{takenIn, lookOf, lookAnswerOf}
 use Rattle.bar_box.specs.History.{InLimits, NoBars}
 use Rattle.bar_box.proofs.FeedSteps.{count-after, kept-after}
 

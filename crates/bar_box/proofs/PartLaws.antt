@@ -11,12 +11,12 @@ use lib.Seq.{take-all, drop-drop}
 use lib.Ieee.{Float}
 use Rattle.measures.specs.Bar.{Bar, barsOf, overlay}
 use Rattle.recognisers.specs.Threshold.{Thresholds, validOf}
-use Rattle.recognisers.specs.declared.call.Verdict.the-variants.{Accepted}
+use Rattle.answers.specs.declared.refusals.Verdict.the-variants.{Accepted}
 use Rattle.recognisers.specs.Number.{places, rowBytes}
-use Rattle.recognisers.specs.Refusal.{firstTrue}
-use Rattle.bar_box.specs.declared.boxes.BarBox.{BarBox}
+use Rattle.recognisers.specs.Refusal.{firstTrue, feedVerdict}
+use Rattle.box_record.specs.declared.boxes.BarBox.{BarBox}
 use Rattle.bar_box.specs.Sheet.{rowsOf}
-use Rattle.bar_box.specs.Box.{freshBox, madeOf, kept, takenIn, feedVerdict, fedOf, sheetOf}
+use Rattle.bar_box.specs.Box.{freshBox, madeOf, kept, takenIn, fedOf, sheetOf}
 use Rattle.measures.proofs.Overlay.{overlay-more}
 use Rattle.bar_box.proofs.SheetLaws.{length-rows, rows-append, rows-newest}
 use Rattle.bar_box.proofs.BoxLaws.{kept-taken}

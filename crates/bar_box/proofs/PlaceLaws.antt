@@ -11,8 +11,8 @@ use lib.ListN.{length, getD, take, drop, set, length-append, length-drop}
 use lib.Seq.{length-take-le, getD-append-add, getD-drop, take-add, drop-drop, drop-append-add}
 use Rattle.measures.specs.Bar.{Bar, overlay}
 use Rattle.recognisers.specs.Number.{places}
-use Rattle.bar_box.specs.declared.boxes.KeptBar.{KeptBar}
-use Rattle.bar_box.specs.declared.boxes.BarBox.{BarBox}
+use Rattle.box_record.specs.declared.boxes.KeptBar.{KeptBar}
+use Rattle.box_record.specs.declared.boxes.BarBox.{BarBox}
 use Rattle.bar_box.specs.Box.{numbered, held, laid, takenIn}
 use Rattle.measures.proofs.Overlay.{overlay-none, overlay-copy, overlay-more}
 use Rattle.bar_box.proofs.OrdinalLaws.{length-numbered}

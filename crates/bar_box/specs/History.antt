@@ -9,14 +9,14 @@ use lib.Ieee.{Float}
 use Rattle.measures.specs.Bar.{Bar, noBar, barsOf, pricesOf}
 use Rattle.measures.specs.Window.{newest, backOf}
 use Rattle.recognisers.specs.Threshold.{Thresholds, standardSet, validOf}
-use Rattle.recognisers.specs.declared.call.Verdict.{Verdict, the-variants.Accepted}
-use Rattle.recognisers.specs.declared.call.LookAnswer.the-variants.{Judged}
+use Rattle.answers.specs.declared.refusals.Verdict.{Verdict, the-variants.Accepted}
+use Rattle.answers.specs.declared.LookAnswer.the-variants.{Judged}
 use Rattle.recognisers.specs.Number.{recognisers, rowBytes, gated, places, farthestLook}
 use Rattle.recognisers.specs.Table.{tableRow, pairAt, codesOf}
-use Rattle.recognisers.specs.Refusal.{codesIn, answerIn, ordinalIn, leaves}
-use Rattle.bar_box.specs.declared.boxes.{KeptBar.KeptBar, BarBox.BarBox, Outcome.Outcome}
+use Rattle.recognisers.specs.Refusal.{codesIn, answerIn, ordinalIn, leaves, feedVerdict}
+use Rattle.box_record.specs.declared.boxes.{KeptBar.KeptBar, BarBox.BarBox, Outcome.Outcome}
 use Rattle.bar_box.specs.Calls.{after, each, joined}
-use Rattle.bar_box.specs.Box.{keptBar, numbered, emptyPlace, madeOf, feedVerdict, fedOf, sheetOf, lookAnswerOf}
+use Rattle.bar_box.specs.Box.{keptBar, numbered, emptyPlace, madeOf, fedOf, sheetOf, lookAnswerOf}
 
 -- what a feed is lent
 pub record Feed : Type 0 where

@@ -6,67 +6,20 @@ ghost use lib.Dec.{eqb};
 ghost use lib.ListN.{length, take};
 ghost use Rattle.measures.specs.Bar.{barsOf, overlay};
 ghost use Rattle.recognisers.specs.Number.{rowBytes};
-ghost use Rattle.recognisers.specs.Refusal.{verdictNumber, firstTrue, leaves};
+ghost use Rattle.recognisers.specs.Refusal.{verdictNumber, feedVerdict};
 ghost use Rattle.bar_box.specs.Sheet.{rowsOf, before};
-ghost use Rattle.bar_box.specs.Box.{kept, takenIn, feedVerdict, checkedTried, fedOf, sheetOf};
-use crate::boxes::BarBox;
-use crate::boxes::Outcome;
+ghost use Rattle.bar_box.specs.Box.{kept, takenIn, fedOf, sheetOf};
 use crate::runs;
 use crate::sheets;
 use crate::sheets::BEFORE;
+use box_record::BarBox;
+use box_record::Outcome;
 use measures::least;
 use recognisers::Thresholds;
-use recognisers::call::Refusal;
-use recognisers::call::Verdict;
-use recognisers::counts::MOST_BARS;
+use recognisers::box_verdicts::feed_verdict;
 use recognisers::counts::PLACES;
 use recognisers::counts::ROW_BYTES;
-
-// The first of the refusals 3 to 6 that is true of a call that is checked as a feed to a box that counts n bars. Three that such a call may
-// try besides the caller has tested: layer says that 12 is not true, whole and right that nothing else is that 4 and 5 also cover.
-pub fn checked(
-    t: Thresholds,
-    layer: bool,
-    n: u32,
-    prices: usize,
-    whole: bool,
-    right: bool,
-    sheet: usize,
-) -> Verdict
-    ensures { λ r. ⌜ r ≡ firstTrue (checkedTried t layer n prices whole right sheet) ⌝ }
-{
-    let valid = t.is_valid();
-    if !valid {
-        return Verdict::Denied(Refusal::BadThreshold);
-    }
-    if !layer {
-        return Verdict::Denied(Refusal::BadLayer);
-    }
-    if prices % 4 != 0 {
-        return Verdict::Denied(Refusal::BrokenBars);
-    }
-    if !whole {
-        return Verdict::Denied(Refusal::BrokenBars);
-    }
-    let bars = prices / 4;
-    if MOST_BARS < n as usize + bars {
-        return Verdict::Denied(Refusal::TooManyBars);
-    }
-    if !right {
-        return Verdict::Denied(Refusal::TooManyBars);
-    }
-    if sheet < ROW_BYTES * bars {
-        return Verdict::Denied(Refusal::ShortSheet);
-    }
-    Verdict::Accepted
-}
-
-// The first of the refusals 3 to 6 that is true of a feed to a box that counts n bars.
-pub fn feed_verdict(t: Thresholds, n: u32, prices: usize, sheet: usize) -> Verdict
-    ensures { λ r. ⌜ r ≡ feedVerdict t n prices sheet ⌝ }
-{
-    checked(t, true, n, prices, true, true, sheet)
-}
+use recognisers::refusals::taken;
 
 // Writes the rows of the lent bars, which follow count others; the newest of these stand at the front of the run, old of them. Those that a
 // rule's window may begin before are labelled over the run, where they come behind those, the others straight over the lent prices.
@@ -136,16 +89,6 @@ fn take_in(b: BarBox, prices: &[f64], sheet: &mut [u8]) -> BarBox
     }
     after.count = count + n as u32;
     after
-}
-
-// How many of the lent prices are taken in: all, or none if the feed is refused.
-pub fn taken(v: Verdict, prices: usize) -> usize
-    ensures { λ r. ⌜ r ≡ leaves v 0 prices ⌝ }
-{
-    match v {
-        Verdict::Accepted => prices,
-        Verdict::Denied(_) => 0,
-    }
 }
 
 // Takes the lent bars in and writes a row for each, or refuses and leaves box and sheet as they were: a refused feed takes no bar.

@@ -6,11 +6,14 @@ use mathlib.Core.List.{List, [], _∷_}
 use lib.ListN.{length}
 use Rattle.measures.specs.Bar.{Bar}
 use Rattle.rule_types.specs.declared.label.Pair.{Pair}
-use Rattle.rule_table.specs.declared.thresholds.Thresholds.{Thresholds}
-use Rattle.rule_table.specs.Table.{pairAt, codesOf}
-use Rattle.recognisers.specs.declared.call.Verdict.{Verdict, the-variants.Accepted, the-variants.Denied}
-use Rattle.recognisers.specs.declared.call.Answer.{Answer, the-variants.Labels}
-use Rattle.recognisers.specs.Refusal.{verdictNumber, leaves, answerTo, plainVerdict, plainAnswer, plainNumber, plainCodes, refusalIn, codesIn}
+use Rattle.thresholds.specs.declared.Thresholds.{Thresholds}
+use Rattle.rule_table.specs.Table.{pairAt}
+use Rattle.rule_types.specs.Label.{codesOf}
+use Rattle.answers.specs.declared.refusals.Verdict.{Verdict, the-variants.Accepted, the-variants.Denied}
+use Rattle.answers.specs.declared.Answer.{Answer, the-variants.Labels}
+use Rattle.answers.specs.Refusal.{verdictNumber, leaves, plainVerdict}
+use Rattle.answers.specs.Answer.{answerTo, refusalIn, codesIn}
+use Rattle.recognisers.specs.Call.{plainAnswer, plainNumber, plainCodes}
 
 values-in : (v : Verdict) (pair : Pair)
     → (refusalIn (answerTo v (Labels pair)) ≡ verdictNumber v) × (codesIn (answerTo v (Labels pair)) ≡ leaves v [] (codesOf (pair ∷ [])))

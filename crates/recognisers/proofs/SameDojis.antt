@@ -8,7 +8,7 @@ use borrow.Author.Tests.{le-leb}
 use Rattle.measures.specs.Bar.{dojiAbove, dojiOf}
 use Rattle.rule_types.specs.Number.{mostWhole, mostTenths}
 use Rattle.rule_table.proofs.SameDojis.{tenth, same-13, same-14}
-use Rattle.recognisers.specs.Refusal.{plainAnswer}
+use Rattle.recognisers.specs.Call.{plainAnswer}
 use Rattle.recognisers.specs.SameDojis.{SameDojis}
 
 pub same-dojis : (k : ℕ) → k ≤ mostWhole → SameDojis k

@@ -5,11 +5,9 @@ use lib.Dec.{eqb}
 use lib.ListN.{length, getD, take, drop}
 use lib.Ieee.{Float, binary64, ofBits}
 use Rattle.measures.specs.Bar.{barsOf}
-use Rattle.rule_table.specs.declared.thresholds.Thresholds.{Thresholds}
-use Rattle.rule_types.specs.declared.label.Pair.{Pair}
-use Rattle.recognisers.specs.declared.call.Answer.{Answer, the-variants.Labels, the-variants.Refused}
-use Rattle.rule_types.specs.Label.{codeOf}
-use Rattle.recognisers.specs.Refusal.{refusalNumber, plainAnswer}
+use Rattle.thresholds.specs.declared.Thresholds.{Thresholds}
+pub use Rattle.answers.specs.Answer.{pairNumber, resultOf}
+use Rattle.recognisers.specs.Call.{plainAnswer}
 
 abbrev pub barBytes : ℕ
 barBytes = 32
@@ -32,15 +30,7 @@ pricesAt s at (suc n) = priceAt s at ∷ pricesAt s (at + 8) n
 unfoldable pub decodedPrices : List ℕ → List Float
 decodedPrices bytes = pricesAt bytes 0 (length bytes / 8)
 
--- the result is v1 × 256 + v2, or 65,536 plus the refusal
-abbrev pub pairNumber : Pair → ℕ
-pairNumber pair = codeOf (pair .v1) * 256 + codeOf (pair .v2)
-
-abbrev pub resultOf : Answer → ℕ
-resultOf (Labels pair) = pairNumber pair
-resultOf (Refused r) = 65536 + refusalNumber r
-
--- a plain call over the bars of the bytes
+-- a plain call over the bars of the bytes; the result is v1 × 256 + v2, or 65,536 plus the refusal
 unfoldable pub exportOf : ℕ → ℕ → Thresholds → List ℕ → ℕ
 exportOf k di t bytes = resultOf (plainAnswer k di t (eqb (length bytes % barBytes) 0) (barsOf (decodedPrices bytes)))
 

@@ -8,11 +8,13 @@ use mathlib.Core.List.{List}
 use lib.ListN.{length}
 use Rattle.measures.specs.Bar.{Bar, dojiAbove, dojiOf}
 use Rattle.rule_types.specs.Number.{wholeOf}
-use Rattle.rule_table.specs.declared.thresholds.Thresholds.{Thresholds}
-use Rattle.rule_table.specs.Threshold.{tenthsWithin}
+use Rattle.thresholds.specs.declared.Thresholds.{Thresholds}
+use Rattle.thresholds.specs.Threshold.{tenthsWithin}
 use Rattle.rule_table.specs.Table.{pairAt, szxIn01, sanSzxIn01}
-use Rattle.recognisers.specs.declared.call.Answer.the-variants.{Labels}
-use Rattle.recognisers.specs.Refusal.{answerTo, plainVerdict, plainAnswer}
+use Rattle.answers.specs.declared.Answer.the-variants.{Labels}
+use Rattle.answers.specs.Refusal.{plainVerdict}
+use Rattle.answers.specs.Answer.{answerTo}
+use Rattle.recognisers.specs.Call.{plainAnswer}
 
 pub record SameDojis (k : ℕ) : Type 0 where
   pub within : tenthsWithin (10 * k) ≡ true

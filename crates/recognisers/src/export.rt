@@ -8,18 +8,18 @@ ghost use lib.Ieee.{binary64, ofBits};
 ghost use Rattle.measures.specs.Bar.{barsOf};
 ghost use Rattle.measures.specs.Window.{windowOf};
 ghost use Rattle.rule_types.specs.Number.{gated, quarterBars};
-ghost use Rattle.rule_table.specs.Threshold.{thresholdsOf};
+ghost use Rattle.thresholds.specs.Threshold.{thresholdsOf};
 ghost use Rattle.rule_table.specs.Table.{pairAt};
-ghost use Rattle.recognisers.specs.Export.{wordAt, priceAt, pricesAt, decodedPrices, pairNumber, resultOf, exportOf};
-use crate::call;
-use crate::call::Answer;
-use crate::call::Verdict;
+ghost use Rattle.recognisers.specs.Export.{wordAt, priceAt, pricesAt, decodedPrices, exportOf};
+use answers::Answer;
+use answers::Verdict;
+use answers::answer_number;
+use answers::verdicts::plain_verdict;
 use measures::price;
 use rule_table::table;
-use rule_table::thresholds::Thresholds;
 use rule_types::counts;
 use rule_types::label::Pair;
-use rule_types::label::code;
+use thresholds::Thresholds;
 
 // The bytes of a bar: eight for each price.
 pub const BAR_BYTES: usize = 32;
@@ -120,25 +120,6 @@ fn pair_at(k: u32, t: Thresholds, di: u32, s: &[u8]) -> Pair
     table::judge(k, t, len, p, &w[..w_len], &gate[..gate_len])
 }
 
-// v1 × 256 + v2 of a pair.
-fn pair_number(pair: Pair) -> u32
-    ensures { λ r. ⌜ r ≡ pairNumber pair ⌝ }
-{
-    let v1 = pair.v1;
-    let v2 = pair.v2;
-    code(v1) as u32 * 256 + code(v2) as u32
-}
-
-// What an answer is as a number: v1 × 256 + v2, or 65,536 plus the refusal.
-pub fn answer_number(a: Answer) -> u32
-    ensures { λ r. ⌜ r ≡ resultOf a ⌝ }
-{
-    match a {
-        Answer::Labels(pair) => pair_number(pair),
-        Answer::Refused(why) => 65536 + call::refusal_number(why) as u32,
-    }
-}
-
 // The plain call over the bars of the bytes, as a number. th13 and th14 count tenths: whoever passes 10 as before gets a tenth of what he means.
 #[no_mangle]
 pub extern "C" fn jcc_label(
@@ -178,7 +159,7 @@ pub extern "C" fn jcc_label(
         th14,
     );
     let n = bars.len();
-    match call::plain_verdict(recogniser, offset, t, n % BAR_BYTES == 0, n / BAR_BYTES) {
+    match plain_verdict(recogniser, offset, t, n % BAR_BYTES == 0, n / BAR_BYTES) {
         Verdict::Denied(why) => answer_number(Answer::Refused(why)),
         Verdict::Accepted => { answer_number(Answer::Labels(pair_at(recogniser, t, offset, bars))) }
     }

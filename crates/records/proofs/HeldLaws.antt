@@ -16,10 +16,11 @@ use Rattle.measures.proofs.WindowLaws.{window-part}
 use Rattle.recognisers.proofs.Reach.{pair-near}
 use Rattle.recognisers.specs.Threshold.{Thresholds}
 use Rattle.recognisers.specs.Label.{Pair}
-use Rattle.recognisers.specs.declared.call.Answer.the-variants.{Labels}
+use Rattle.answers.specs.declared.Answer.the-variants.{Labels}
 use Rattle.recognisers.specs.Number.{gated, reachBars, quarterBars, gateEnd}
 use Rattle.recognisers.specs.Table.{judgeOf}
-use Rattle.recognisers.specs.Refusal.{answerTo, plainVerdict, plainAnswer}
+use Rattle.recognisers.specs.Refusal.{answerTo, plainVerdict}
+use Rattle.recognisers.specs.Call.{plainAnswer}
 use Rattle.recognisers.proofs.TableLaws.{gate-enough}
 use Rattle.records.specs.declared.Window.{Window}
 use Rattle.records.specs.declared.Span.{Span}

@@ -8,22 +8,24 @@ ghost use Prim.Native.Nat as Nat;
 ghost use Prim.Native.Nat.{_+_, _-_, _≤_};
 ghost use lib.ListN.{length, take, drop};
 ghost use Rattle.measures.specs.Window.{upTo, windowOf};
-ghost use Rattle.recognisers.specs.declared.call.Answer.the-variants.{Labels};
+ghost use Rattle.answers.specs.declared.Answer.the-variants.{Labels};
 ghost use Rattle.recognisers.specs.Number.{reachBars};
 ghost use Rattle.recognisers.specs.Threshold.{thresholdsOf};
 ghost use Rattle.recognisers.specs.Table.{judgeOf};
-ghost use Rattle.recognisers.specs.Refusal.{plainVerdict, answerTo, plainAnswer, plainNumber, plainCodes, refusalIn, codesIn};
+ghost use Rattle.recognisers.specs.Refusal.{plainVerdict, answerTo, refusalIn, codesIn};
+ghost use Rattle.recognisers.specs.Call.{plainAnswer, plainNumber, plainCodes};
 ghost use Rattle.recognisers.specs.Export.{resultOf};
 ghost use Rattle.records.specs.Held.{windowBars};
 use measures::Bar;
 use recognisers::Answer;
 use recognisers::Pair;
 use recognisers::Thresholds;
-use recognisers::call;
-use recognisers::call::Verdict;
+use recognisers::Verdict;
+use recognisers::answer_number;
 use recognisers::counts;
 use recognisers::export;
 use recognisers::table;
+use recognisers::verdicts::plain_verdict;
 
 // The prices of the bars that a rule can see, as many as there are.
 struct Window {
@@ -97,7 +99,7 @@ fn answer(k: u32, di: u32, t: Thresholds, len: usize, w: Window, gate: Window) -
     requires { ⌜ (w .count ≤ reachBars) × (gate .count ≤ reachBars) ⌝ }
     ensures { λ r. ⌜ r ≡ answerTo (plainVerdict k di t true len) (Labels (judgeOf k t len (upTo len di) (windowBars w) (windowBars gate))) ⌝ }
 {
-    match call::plain_verdict(k, di, t, true, len) {
+    match plain_verdict(k, di, t, true, len) {
         Verdict::Denied(why) => Answer::Refused(why),
         Verdict::Accepted => { Answer::Labels(pair_in(k, t, len, di, w, gate)) }
     }
@@ -151,5 +153,5 @@ pub extern "C" fn jcc_label_bars(
         th13,
         th14,
     );
-    export::answer_number(recognise_bars(recogniser, offset, t, bars))
+    answer_number(recognise_bars(recogniser, offset, t, bars))
 }

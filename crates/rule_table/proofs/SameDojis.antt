@@ -6,7 +6,7 @@ use Rattle.measures.specs.Bar.{Bar, dojiOf}
 use Rattle.rule_types.specs.Number.{mostWhole}
 use Rattle.star_rules.specs.StarRule.{szx, sanSzx}
 pub use Rattle.star_rules.proofs.Tenth.{tenth}
-use Rattle.rule_table.specs.declared.thresholds.Thresholds.{Thresholds}
+use Rattle.thresholds.specs.declared.Thresholds.{Thresholds}
 use Rattle.rule_table.specs.Table.{seenOf, rows, tableRow, judgeOf, pairAt, szxIn01, sanSzxIn01}
 
 module _ (k : ℕ) (h : k ≤ mostWhole) (t : Thresholds) (len : ℕ) (history : List Bar) (di : ℕ) where

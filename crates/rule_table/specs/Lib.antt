@@ -1,3 +1,2 @@
--- The recognisers' thresholds, and the table of "The eighteen".
-pub mod Threshold
+-- The table of "The eighteen".
 pub mod Table

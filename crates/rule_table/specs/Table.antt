@@ -10,8 +10,8 @@ use Rattle.measures.specs.declared.folds.Extremes.{Extremes}
 use Rattle.measures.specs.Window.{upTo, newest, windowOf, backOf}
 use Rattle.measures.specs.Fold.{columnOf, highestOf}
 use Rattle.rule_types.specs.declared.label.Pair.{Pair}
-use Rattle.rule_table.specs.declared.thresholds.Thresholds.{Thresholds}
-use Rattle.rule_types.specs.Label.{codeOf, pairA, pairB}
+use Rattle.thresholds.specs.declared.Thresholds.{Thresholds}
+use Rattle.rule_types.specs.Label.{pairA, pairB}
 use Rattle.rule_types.specs.Number.{recognisers, gated, reachBars, quarterBars, gateEnd, wholeOf}
 use Rattle.quarter_rules.specs.declared.Quarter.{Quarter}
 use Rattle.quarter_rules.specs.QuarterRule.{quarterIn, quarterExtremes, sanXingXian, tenMo, fenShouXian, zhuHuoXian, fanJiXian}
@@ -126,11 +126,6 @@ numbers (suc n) k = k ∷ numbers n (k + 1)
 -- the pairs of the recognisers in the order of their numbers, at an offset of a history
 unfoldable pub pairsAt : Thresholds → ℕ → List Bar → ℕ → List Pair
 pairsAt t len history di = map (λ k. pairAt k t len history di) (numbers recognisers 0)
-
--- v1, then v2, of each pair, as codes
-unfoldable pub codesOf : List Pair → List ℕ
-codesOf [] = []
-codesOf (pair ∷ pairs) = codeOf (pair .v1) ∷ codeOf (pair .v2) ∷ codesOf pairs
 
 -- ---- the same over the windows of a judged bar, as the code's helpers have it
 unfoldable pub rulesOf : Thresholds → ℕ → Bool → List Bar → List Bar → List Pair

@@ -6,7 +6,6 @@ ghost use Rattle.measures.specs.Bar.{barsOf};
 ghost use Prim.Native.Nat.{_<_};
 ghost use Rattle.rule_types.specs.Number.{recognisers, reachBars};
 ghost use Rattle.rule_table.specs.Table.{tableRow, ruleOf, judgeOf, pairAt, pairsAt, rulesOf, pairsOf};
-use crate::thresholds::Thresholds;
 use measures::back;
 use quarter_rules::quarter_extremes;
 use quarter_rules::quarter_in;
@@ -19,6 +18,7 @@ use rule_types::label::Pair;
 use rule_types::label::pair_a;
 use rule_types::label::pair_b;
 use rule_types::label::pick_pair;
+use thresholds::Thresholds;
 
 // The p from which each rule holds, in the order of the numbers.
 const FROM: [usize; RECOGNISERS] = [1, 2, 12, 16, 5, 6, 3, 2, 1, 2, 2, 3, 3, 11, 8, 21, 7, 5];

@@ -1,5 +1,6 @@
 -- "The eighteen": codes of the labels, 0 to 37, and the short pairs.
 use Prim.Native.Nat.{ℕ}
+use mathlib.Core.List.{List, [], _∷_}
 use Rattle.rule_types.specs.declared.label.{Label.Label, Pair.Pair}
 use Rattle.rule_types.specs.declared.label.Label.the-variants.{Other, Any, Met, Hammer, HangingMan, BullishEngulfing, BearishEngulfing, RisingThreeMethods, FallingThreeMethods, Bars5, Bars6, Bars7, Bars8, Bars9, MorningStar, EveningStar, MiddleDoji, FallingSeparatingLines, RisingSeparatingLines, ArrowOnString, CandleInWind, Bearish, Bullish, Bottom, Top, StandardBody, Regular, Strong, HalfStrong, DragonflyDoji, GravestoneDoji, LongLeggedDoji, CommonDoji, Northern, BullishCounterattack, BearishCounterattack, GapUp, GapDown}
 
@@ -53,3 +54,8 @@ pairA = pairOf Other Other
 
 abbrev pub pairB : Pair
 pairB = pairOf Other Any
+
+-- v1, then v2, of each pair, as codes
+unfoldable pub codesOf : List Pair → List ℕ
+codesOf [] = []
+codesOf (pair ∷ pairs) = codeOf (pair .v1) ∷ codeOf (pair .v2) ∷ codesOf pairs

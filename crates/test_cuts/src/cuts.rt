@@ -9,9 +9,9 @@ use bar_box::BarBox;
 use bar_box::Outcome;
 use measures::least;
 use recognisers::Thresholds;
-use recognisers::call::Verdict;
-use recognisers::call::refusal_number;
+use recognisers::Verdict;
 use recognisers::counts::ROW_BYTES;
+use recognisers::refusals::refusal_number;
 use std::num::wrapping_add_u64;
 
 // The most bars of a history here, and a sheet with room for a row more than that has. A byte that is not written shows: it is 255,

@@ -4,11 +4,11 @@ use bar_box::KeptBar;
 use measures::Bar;
 use measures::least;
 use recognisers::LookAnswer;
-use recognisers::call::answer_in;
-use recognisers::call::ordinal_in;
+use recognisers::answer_in;
+use recognisers::answer_number;
 use recognisers::counts::PLACES;
 use recognisers::counts::RECOGNISERS;
-use recognisers::export::answer_number;
+use recognisers::ordinal_in;
 
 // The largest prime below 2^32, and what a digest is multiplied by at each step: no product reaches 2^64.
 const PRIME: u64 = 4294967291;

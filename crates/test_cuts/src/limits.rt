@@ -10,11 +10,11 @@ use crate::print;
 use bar_box::BarBox;
 use recognisers::LookAnswer;
 use recognisers::Thresholds;
-use recognisers::call::answer_in;
-use recognisers::call::ordinal_in;
+use recognisers::answer_in;
+use recognisers::answer_number;
 use recognisers::counts::PLACES;
 use recognisers::counts::ROW_BYTES;
-use recognisers::export::answer_number;
+use recognisers::ordinal_in;
 
 // The standard set but for the i-th threshold: x where that is a float, else n.
 pub fn changed(i: u32, x: f64, n: u32) -> Thresholds {

@@ -11,13 +11,13 @@ use crate::digest::mix_place;
 use crate::digest::of_bytes;
 use measures::Bar;
 use measures::least;
+use recognisers::Refusal;
 use recognisers::Thresholds;
-use recognisers::call::Refusal;
-use recognisers::call::refusal_number;
+use recognisers::answer_number;
 use recognisers::counts::FARTHEST_LOOK;
 use recognisers::counts::PLACES;
 use recognisers::counts::RECOGNISERS;
-use recognisers::export::answer_number;
+use recognisers::refusals::refusal_number;
 
 // The plain call as a number.
 fn call(prices: &[f64], k: u32, di: u32) -> u32 {

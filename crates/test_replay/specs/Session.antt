@@ -12,7 +12,7 @@ use Rattle.test_replay.specs.Hex.{payloadOf}
 use Rattle.test_replay.specs.Thresholds.{thresholdsOf}
 use Rattle.test_replay.specs.declared.command.Command.{Command, the-variants.New, the-variants.Bar, the-variants.Thresholds, the-variants.Call, the-variants.Bad}
 use Rattle.test_replay.specs.declared.session.Session.{Session}
-use Rattle.rule_table.specs.declared.thresholds.Thresholds as declared
+use Rattle.thresholds.specs.declared.Thresholds as declared
 
 -- one bar more, where there is room
 unfoldable pub withBar : List ℕ → List ℕ → List ℕ

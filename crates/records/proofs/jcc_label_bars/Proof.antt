@@ -40,19 +40,19 @@ use denote.Triple.Walked.{says, Stay, Stays, stay-none-slice, stay-none, walkOf,
 use denote.Exit.{yes}
 use Rattle.measures.specs.Bar.{Bar}
 use Rattle.recognisers.specs.Threshold.{Thresholds, thresholdsOf}
-use Rattle.recognisers.specs.declared.call.Answer.{Answer}
-use Rattle.recognisers.specs.Refusal.{plainAnswer}
+use Rattle.answers.specs.declared.Answer.{Answer}
+use Rattle.recognisers.specs.Call.{plainAnswer}
 use Rattle.recognisers.proofs.AnswerLaws.{Answers}
 use Rattle.recognisers.specs.Export.{resultOf}
 use Rattle.records.proofs.Walk.{own, own-u32, own-f64, past}
 use Rattle.prices.proofs.bars.Bar as T
-use Rattle.rule_table.proofs.thresholds.Thresholds as S
-use Rattle.rule_table.proofs.thresholds.Thresholds.Laws as S′
-use Rattle.recognisers.proofs.call.Answer as R
-use Rattle.recognisers.proofs.call.Answer.Laws as R′
-use Rattle.rule_table.proofs.thresholds.Thresholds.new as new
-use Rattle.rule_table.proofs.thresholds.Thresholds.new.Symbol as new-def
-use Rattle.rule_table.proofs.thresholds.Thresholds.new.Met as new-thm
+use Rattle.thresholds.proofs.Thresholds as S
+use Rattle.thresholds.proofs.Thresholds.Laws as S′
+use Rattle.answers.proofs.Answer as R
+use Rattle.answers.proofs.Answer.Laws as R′
+use Rattle.thresholds.proofs.Thresholds.new as new
+use Rattle.thresholds.proofs.Thresholds.new.Symbol as new-def
+use Rattle.thresholds.proofs.Thresholds.new.Met as new-thm
 use Rattle.recognisers.proofs.export.answer_number as number
 use Rattle.recognisers.proofs.export.answer_number.Symbol as number-def
 use Rattle.recognisers.proofs.export.answer_number.Met as number-thm

@@ -43,7 +43,7 @@ use denote.Exit.{yes}
 use Rattle.measures.specs.Bar.{Bar}
 use Rattle.measures.specs.Window.{upTo, windowOf}
 use Rattle.recognisers.specs.Threshold.{Thresholds}
-use Rattle.recognisers.specs.declared.call.Answer.{Answer, the-variants.Labels}
+use Rattle.answers.specs.declared.Answer.{Answer, the-variants.Labels}
 use Rattle.recognisers.specs.Number.{gated, reachBars, quarterBars, gateEnd}
 use Rattle.recognisers.specs.Table.{judgeOf}
 use Rattle.recognisers.specs.Refusal.{answerTo, plainVerdict}
@@ -53,10 +53,10 @@ use Rattle.records.specs.Held.{windowBars}
 use Rattle.records.proofs.HeldLaws.{answer-held}
 use Rattle.records.proofs.Walk.{own, own-u32, own-usize}
 use Rattle.prices.proofs.bars.Bar as T
-use Rattle.rule_table.proofs.thresholds.Thresholds as S
-use Rattle.rule_table.proofs.thresholds.Thresholds.Laws as S′
-use Rattle.recognisers.proofs.call.Answer as R
-use Rattle.recognisers.proofs.call.Answer.Laws as R′
+use Rattle.thresholds.proofs.Thresholds as S
+use Rattle.thresholds.proofs.Thresholds.Laws as S′
+use Rattle.answers.proofs.Answer as R
+use Rattle.answers.proofs.Answer.Laws as R′
 use Rattle.records.proofs.Window as N
 use Rattle.records.proofs.Window.Laws as N′
 use Rattle.recognisers.proofs.export.gate_bars as bars

@@ -10,8 +10,9 @@ use Rattle.measures.specs.Bar.{barsOf, overlay, pricesOf}
 use Rattle.bar_box.specs.Box.{numbered, barsIn}
 use Rattle.measures.proofs.Overlay.{overlay-none, overlay-copy}
 use Rattle.measures.proofs.PriceLaws.{put-next}
-use Rattle.bar_box.specs.declared.boxes.BarBox.{BarBox}
-use Rattle.bar_box.proofs.OrdinalLaws.{noKept, bar-at, length-numbered, numbered-from}
+use Rattle.box_record.specs.declared.boxes.BarBox.{BarBox}
+use Rattle.box_record.proofs.RecordLaws.{noKept}
+use Rattle.bar_box.proofs.OrdinalLaws.{bar-at, length-numbered, numbered-from}
 use Rattle.bar_box.proofs.SeamLaws.{run-rows}
 use Rattle.bar_box.proofs.PlaceLaws.{withBars, by-one, shifted, shifted-start, shifted-next, places-taken}
 use Rattle.bar_box.proofs.feeds.take_in.Statement.{statement}

@@ -2,7 +2,7 @@
 use mathlib.Core.Path.{_∙_, sym}
 use borrow.Author.Needs.{needs}
 use Rattle.measures.specs.Bar.{barsOf}
-use Rattle.recognisers.specs.Refusal.{recogniseOf, plainAnswer}
+use Rattle.recognisers.specs.Call.{recogniseOf, plainAnswer}
 use Rattle.recognisers.proofs.AnswerLaws.{plain-values}
 use Rattle.recognisers.proofs.call.recognise.Statement.{statement}
 use Rattle.recognisers.proofs.call.recognise.Tie as tie

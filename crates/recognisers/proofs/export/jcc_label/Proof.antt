@@ -1,7 +1,7 @@
 -- The number of the plain call's answer. Assumes nothing.
 use mathlib.Core.Path.{_∙_, sym}
 use borrow.Author.Needs.{needs}
-use Rattle.recognisers.specs.Refusal.{plainAnswer}
+use Rattle.recognisers.specs.Call.{plainAnswer}
 use Rattle.recognisers.specs.Export.{exportOf}
 use Rattle.recognisers.proofs.ByteLaws.{length-history}
 use Rattle.recognisers.proofs.export.jcc_label.Statement.{statement}

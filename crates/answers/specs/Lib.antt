@@ -1,0 +1,3 @@
+-- Why calls are refused, and what they answer.
+pub mod Refusal
+pub mod Answer

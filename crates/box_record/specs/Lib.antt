@@ -1,0 +1,2 @@
+-- The box, its making and a look.
+pub mod Box

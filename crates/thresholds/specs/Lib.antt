@@ -1,0 +1,2 @@
+-- The thresholds of the recognisers.
+pub mod Threshold
