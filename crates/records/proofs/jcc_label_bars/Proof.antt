@@ -53,9 +53,9 @@ use Rattle.answers.proofs.Answer.Laws as R′
 use Rattle.thresholds.proofs.Thresholds.new as new
 use Rattle.thresholds.proofs.Thresholds.new.Symbol as new-def
 use Rattle.thresholds.proofs.Thresholds.new.Met as new-thm
-use Rattle.recognisers.proofs.export.answer_number as number
-use Rattle.recognisers.proofs.export.answer_number.Symbol as number-def
-use Rattle.recognisers.proofs.export.answer_number.Met as number-thm
+use Rattle.answers.proofs.answer_number as number
+use Rattle.answers.proofs.answer_number.Symbol as number-def
+use Rattle.answers.proofs.answer_number.Met as number-thm
 use Rattle.records.proofs.recognise_bars as recognise
 use Rattle.records.proofs.recognise_bars.Symbol as recognise-def
 use Rattle.records.proofs.recognise_bars.Met as recognise-thm
@@ -249,6 +249,6 @@ jcc-label-bars-spec 𝓤 H 𝓜 𝓖 𝓡 =
     entered 𝓤 H (tripleOf 𝓤 H (𝓖 .A) f.signature (f.spec 𝓤 H (𝓖 .A) (𝓜 .mem) (𝓡 .run)))
     (tables 𝓤 H 𝓜 𝓡 code.env .C) (tables 𝓤 H 𝓜 𝓡 code.env .Λ) #records·jcc-label-bars code.function (code.unfolded 𝓤 H 𝓜 𝓡)
     (jcc-label-bars-meets 𝓤 H (𝓖 .A) (givenOf 𝓤 H 𝓜 𝓖) (𝓜 .mem) (𝓡 .run) (tablesOf 𝓤 H 𝓜 (tables 𝓤 H 𝓜 𝓡 code.env))
-    (cited 𝓤 H (New 𝓤 H (𝓖 .A) (𝓜 .mem) (𝓡 .run)) 𝓜 𝓡 code.env new-def.name new-def.routine code.calls-rule-table·thresholds·Thresholds·new (new-thm.met 𝓤 H 𝓜 𝓖 𝓡))
+    (cited 𝓤 H (New 𝓤 H (𝓖 .A) (𝓜 .mem) (𝓡 .run)) 𝓜 𝓡 code.env new-def.name new-def.routine code.calls-thresholds·Thresholds·new (new-thm.met 𝓤 H 𝓜 𝓖 𝓡))
     (cited 𝓤 H (Recognise 𝓤 H (𝓖 .A) (𝓜 .mem) (𝓡 .run)) 𝓜 𝓡 code.env recognise-def.name recognise-def.routine code.calls-records·recognise-bars (recognise-thm.met 𝓤 H 𝓜 𝓖 𝓡))
-    (cited 𝓤 H (Number 𝓤 H (𝓖 .A) (𝓜 .mem) (𝓡 .run)) 𝓜 𝓡 code.env number-def.name number-def.routine code.calls-recognisers·export·answer-number (number-thm.met 𝓤 H 𝓜 𝓖 𝓡)))
+    (cited 𝓤 H (Number 𝓤 H (𝓖 .A) (𝓜 .mem) (𝓡 .run)) 𝓜 𝓡 code.env number-def.name number-def.routine code.calls-answers·answer-number (number-thm.met 𝓤 H 𝓜 𝓖 𝓡)))
