@@ -19,11 +19,12 @@ use Rattle.measures.proofs.FoldLaws.{known-highest, known-lowest}
 use Rattle.rule_types.specs.declared.label.Label.the-variants.{Other}
 use Rattle.growing_rules.specs.declared.Ends.{Ends}
 use Rattle.growing_rules.specs.declared.Shape.{Shape, the-variants.ThreeMethods, the-variants.Tower}
-use Rattle.growing_rules.specs.declared.middle.Middle.{Middle}
+use Rattle.middles.specs.declared.Middle.{Middle}
 use Rattle.growing_rules.specs.GrowingRule.{firstMatch, innerOf}
-use Rattle.growing_rules.specs.Middle.{checkOf, middleOf, entered, middleAt, mayRise, mayFall, mayBeTop, mayBeBottom, mayBe, beyond, noMatch, foundOf, searchedOf}
+use Rattle.middles.specs.MiddleSteps.{middleOf, entered, middleAt}
+use Rattle.growing_rules.specs.SearchSteps.{checkOf, mayRise, mayFall, mayBeTop, mayBeBottom, mayBe, beyond, noMatch, foundOf, searchedOf}
 use Rattle.growing_rules.proofs.GrowingLaws.{match-miss, match-ends}
-use Rattle.growing_rules.proofs.MiddleLaws.{first-at, last-at, at-next, at-end}
+use Rattle.middles.proofs.MiddleLaws.{first-at, last-at, at-next, at-end}
 use Rattle.growing_rules.proofs.ShapeLaws.{neither, no-label}
 
 -- ---- a conjunction that fails

@@ -2,5 +2,4 @@
 pub mod BodyOrder
 pub mod GrowingLaws
 pub mod GrowingNeeds
-pub mod MiddleLaws
 pub mod ShapeLaws

@@ -13,9 +13,10 @@ use Rattle.measures.proofs.FoldLaws.{every-above, every-below}
 use Rattle.rule_types.specs.declared.label.Label.the-variants.{Other, RisingThreeMethods, FallingThreeMethods, Bottom, Top}
 use Rattle.rule_types.specs.Number.{aHalf}
 use Rattle.growing_rules.specs.declared.Shape.{Shape, the-variants.ThreeMethods, the-variants.Tower}
-use Rattle.growing_rules.specs.declared.middle.Middle.{Middle}
+use Rattle.middles.specs.declared.Middle.{Middle}
 use Rattle.growing_rules.specs.GrowingRule.{firstOf, lastOf, innerOf, risesOf, fallsOf, threeMethods, endsLead, topOf, bottomOf, tower}
-use Rattle.growing_rules.specs.Middle.{checkOf, middleOf, mayRise, mayFall, mayBeTop, mayBeBottom, mayBe}
+use Rattle.middles.specs.MiddleSteps.{middleOf}
+use Rattle.growing_rules.specs.SearchSteps.{checkOf, mayRise, mayFall, mayBeTop, mayBeBottom, mayBe}
 
 pub neither : (a b : Bool) → (a || b) ≡ false → (a ≡ false) × (b ≡ false)
 neither false b h = (refl, h)

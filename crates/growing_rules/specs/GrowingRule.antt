@@ -16,6 +16,7 @@ use Rattle.rule_types.specs.declared.label.Label.the-variants.{Other, RisingThr
 use Rattle.growing_rules.specs.declared.Growing.{Growing}
 use Rattle.rule_types.specs.Label.{codeOf, pairOf, pairA}
 use Rattle.rule_types.specs.Number.{aHalf}
+unfoldable pub use Rattle.middles.specs.Part.{firstOf, lastOf, innerOf}
 
 -- ---- windows that grow
 
@@ -32,16 +33,6 @@ firstMatch check zero n w = pairA
 firstMatch check (suc k) n w =
     let t = check (windowOf w 1 n) in
     cond (eqb (codeOf t) 0) (firstMatch check k (n + 1) w) (pairOf t (sizeLabel n))
-
--- the first and the last bar of a window, and those between them
-unfoldable pub firstOf : List Bar → Bar
-firstOf s = backOf s (length s)
-
-unfoldable pub lastOf : List Bar → Bar
-lastOf s = backOf s 1
-
-unfoldable pub innerOf : List Bar → List Bar
-innerOf s = windowOf s 2 (length s - 2)
 
 -- ---- 4: san_fa_v20221118
 

@@ -9,19 +9,18 @@ ghost use Rattle.measures.specs.Bar.{barsOf};
 ghost use Rattle.measures.specs.Window.{backOf};
 ghost use Rattle.growing_rules.specs.declared.Shape.the-variants as shapes;
 ghost use Rattle.growing_rules.specs.GrowingRule.{sizeLabel, firstMatch, firstOf, lastOf, innerOf, threeMethods, sanFaV20221118, endsLead, tower as towerOf, taXing, growingOf};
-ghost use Rattle.growing_rules.specs.Middle.{leadersOf, bodyJoined, checkOf, middleOf, middleAt, mayRise, mayFall, mayBeTop, mayBeBottom, mayBe, beyond as beyondOf, noMatch, foundOf, searchedOf};
+ghost use Rattle.middles.specs.MiddleSteps.{middleOf, middleAt};
+ghost use Rattle.growing_rules.specs.SearchSteps.{leadersOf, bodyJoined, checkOf, mayRise, mayFall, mayBeTop, mayBeBottom, mayBe, beyond as beyondOf, noMatch, foundOf, searchedOf};
 use measures::Bar;
 use measures::Column;
-use middle::Middle;
-use middle::first_middle;
-use middle::grow;
+use middles::Middle;
+use middles::first_middle;
+use middles::grow;
 use rule_types::label::Label;
 use rule_types::label::Pair;
 use rule_types::label::code;
 use rule_types::label::pair_a;
 use rule_types::label::pick;
-
-mod middle;
 
 // What a window is tried for, where the source has a closure.
 pub enum Shape {

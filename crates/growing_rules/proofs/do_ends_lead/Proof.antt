@@ -1,6 +1,6 @@
 -- The scan carries the last but one of the bodies in non-falling order. Assumes nothing.
 use Rattle.growing_rules.specs.GrowingRule.{endsLead}
-use Rattle.growing_rules.specs.Middle.{leadersOf}
+use Rattle.growing_rules.specs.SearchSteps.{leadersOf}
 use Rattle.growing_rules.proofs.GrowingLaws.{last-but-one}
 use Rattle.growing_rules.proofs.do_ends_lead.Statement.{statement}
 use Rattle.growing_rules.proofs.do_ends_lead.Tie as tie

@@ -2,7 +2,7 @@
 use mathlib.Core.Path.{_∙_}
 use Rattle.measures.specs.Bar.{barsOf}
 use Rattle.growing_rules.specs.GrowingRule.{sanFaV20221118, taXing}
-use Rattle.growing_rules.specs.Middle.{foundOf}
+use Rattle.growing_rules.specs.SearchSteps.{foundOf}
 use Rattle.growing_rules.proofs.GrowingNeeds.{no-growing}
 use Rattle.growing_rules.proofs.growing_pairs.Statement.{statement}
 use Rattle.growing_rules.proofs.growing_pairs.Tie as tie

@@ -1,6 +1,6 @@
 -- The code is the definition.
 use mathlib.Core.Path.{refl}
-use Rattle.growing_rules.specs.Middle.{beyond}
+use Rattle.growing_rules.specs.SearchSteps.{beyond}
 use Rattle.growing_rules.proofs.is_beyond.Statement.{statement}
 use Rattle.growing_rules.proofs.is_beyond.Tie as tie
 

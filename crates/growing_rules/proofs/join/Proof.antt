@@ -1,5 +1,5 @@
 -- The code is the definition.
-use Rattle.growing_rules.specs.Middle.{bodyJoined}
+use Rattle.growing_rules.specs.SearchSteps.{bodyJoined}
 use Rattle.growing_rules.proofs.join.Statement.{statement}
 use Rattle.growing_rules.proofs.join.Tie as tie
 

@@ -6,7 +6,7 @@ use lib.ListN.{length}
 use Rattle.measures.specs.Bar.{barsOf}
 use Rattle.measures.specs.Window.{newest}
 use Rattle.measures.proofs.WindowLaws.{newest-more, newest-none, newest-all}
-use Rattle.growing_rules.specs.Middle.{leadersOf}
+use Rattle.growing_rules.specs.SearchSteps.{leadersOf}
 use Rattle.growing_rules.proofs.GrowingLaws.{leaders-grow}
 use Rattle.growing_rules.proofs.leaders_of.Statement.{statement}
 use Rattle.growing_rules.proofs.leaders_of.Tie as tie

@@ -1,6 +1,6 @@
 -- The code is the definition. Assumes nothing.
 use mathlib.Core.Path.{refl}
-use Rattle.growing_rules.specs.Middle.{mayBeBottom}
+use Rattle.growing_rules.specs.SearchSteps.{mayBeBottom}
 use Rattle.growing_rules.proofs.may_be_bottom.Statement.{statement}
 use Rattle.growing_rules.proofs.may_be_bottom.Tie as tie
 

@@ -1,6 +1,6 @@
 -- The code is the definition. Assumes nothing.
 use mathlib.Core.Path.{refl}
-use Rattle.growing_rules.specs.Middle.{mayBeTop}
+use Rattle.growing_rules.specs.SearchSteps.{mayBeTop}
 use Rattle.growing_rules.proofs.may_be_top.Statement.{statement}
 use Rattle.growing_rules.proofs.may_be_top.Tie as tie
 

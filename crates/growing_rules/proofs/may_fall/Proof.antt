@@ -1,6 +1,6 @@
 -- The code is the definition. Assumes nothing.
 use mathlib.Core.Path.{refl}
-use Rattle.growing_rules.specs.Middle.{mayFall}
+use Rattle.growing_rules.specs.SearchSteps.{mayFall}
 use Rattle.growing_rules.proofs.may_fall.Statement.{statement}
 use Rattle.growing_rules.proofs.may_fall.Tie as tie
 

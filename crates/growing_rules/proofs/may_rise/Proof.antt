@@ -1,6 +1,6 @@
 -- The code is the definition. Assumes nothing.
 use mathlib.Core.Path.{refl}
-use Rattle.growing_rules.specs.Middle.{mayRise}
+use Rattle.growing_rules.specs.SearchSteps.{mayRise}
 use Rattle.growing_rules.proofs.may_rise.Statement.{statement}
 use Rattle.growing_rules.proofs.may_rise.Tie as tie
 

@@ -1,6 +1,6 @@
 -- The code is the definition.
 use Rattle.growing_rules.specs.GrowingRule.{bodiesDown, bodiesKnown}
-use Rattle.growing_rules.specs.Middle.{leadersOf}
+use Rattle.growing_rules.specs.SearchSteps.{leadersOf}
 use Rattle.growing_rules.proofs.no_leaders.Statement.{statement}
 use Rattle.growing_rules.proofs.no_leaders.Tie as tie
 

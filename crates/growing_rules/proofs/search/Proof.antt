@@ -5,9 +5,10 @@ use native.Mathlib.Omega.{arith}
 use borrow.Author.Tests.{not-true}
 use Rattle.measures.specs.Bar.{barsOf}
 use Rattle.measures.specs.Window.{backOf}
-use Rattle.growing_rules.specs.Middle.{middleAt, beyond, searchedOf}
+use Rattle.middles.specs.MiddleSteps.{middleAt}
+use Rattle.growing_rules.specs.SearchSteps.{beyond, searchedOf}
 use Rattle.growing_rules.proofs.GrowingNeeds.{search-ends, searched-none}
-use Rattle.growing_rules.proofs.MiddleLaws.{at-grown}
+use Rattle.middles.proofs.MiddleLaws.{at-grown}
 use Rattle.growing_rules.proofs.search.Statement.{statement}
 use Rattle.growing_rules.proofs.search.Tie as tie
 

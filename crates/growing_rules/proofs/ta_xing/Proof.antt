@@ -3,7 +3,7 @@ use mathlib.Core.Path.{ap, _∙_}
 use Rattle.measures.specs.Bar.{barsOf}
 use Rattle.growing_rules.specs.declared.Growing.{Growing}
 use Rattle.growing_rules.specs.GrowingRule.{taXing}
-use Rattle.growing_rules.specs.Middle.{foundOf}
+use Rattle.growing_rules.specs.SearchSteps.{foundOf}
 use Rattle.growing_rules.proofs.GrowingNeeds.{no-growing}
 use Rattle.growing_rules.proofs.ta_xing.Statement.{statement}
 use Rattle.growing_rules.proofs.ta_xing.Tie as tie

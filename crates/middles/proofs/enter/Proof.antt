@@ -1,7 +1,7 @@
 -- The code is the definition. Assumes nothing.
-use Rattle.growing_rules.specs.Middle.{entered}
-use Rattle.growing_rules.proofs.middle.enter.Statement.{statement}
-use Rattle.growing_rules.proofs.middle.enter.Tie as tie
+use Rattle.middles.specs.MiddleSteps.{entered}
+use Rattle.middles.proofs.enter.Statement.{statement}
+use Rattle.middles.proofs.enter.Tie as tie
 
 returns : tie.Need-returns
 unfolding entered

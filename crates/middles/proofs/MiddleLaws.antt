@@ -17,8 +17,8 @@ use Rattle.measures.specs.Fold.{columnOf, highestOf, lowestOf, everyOf, extreme
 use Rattle.measures.proofs.FoldLaws.{highest-grows, lowest-grows, max-of-known, min-of-known}
 use Rattle.measures.proofs.Order.{max-stays-known, min-stays-known}
 use Rattle.measures.proofs.WindowLaws.{upTo-in, upTo-one, length-window, newest-more, newest-none, back-newest, window-reach, all-of-it}
-use Rattle.growing_rules.specs.GrowingRule.{firstOf, lastOf, innerOf}
-use Rattle.growing_rules.specs.Middle.{middleOf, entered, grownBy, middleAt}
+use Rattle.middles.specs.Part.{firstOf, lastOf, innerOf}
+use Rattle.middles.specs.MiddleSteps.{middleOf, entered, grownBy, middleAt}
 
 -- ---- the bars of the window of n bars
 

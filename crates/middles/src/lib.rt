@@ -1,8 +1,9 @@
-// The middle of a window, the bars between its first and its last: their extremes run along as the window grows.
+// The middle of a window, the bars between its first and its last: their extremes run along as the window grows. All is proved, nothing is
+// assumed, and no public function has a `requires`: each contract is an equation with a definition of specs/, for every input.
 ghost use mathlib.Core.Path.{_≡_};
 ghost use mathlib.Core.List.{[], _∷_};
 ghost use Rattle.measures.specs.Bar.{barsOf};
-ghost use Rattle.growing_rules.specs.Middle.{middleOf, entered, grownBy, middleAt};
+ghost use Rattle.middles.specs.MiddleSteps.{middleOf, entered, grownBy, middleAt};
 use measures::Bar;
 
 // The highest high and the lowest low, which pass NaN over, and whether no high, no low is NaN.
@@ -37,7 +38,7 @@ fn enter(m: Middle, b: Bar) -> Middle
 }
 
 // The middle of the window of one bar more than n, whose first bar enters; where there is no older bar, the window stays as it is.
-pub(crate) fn grow(m: Middle, w: &[f64], n: usize) -> Middle
+pub fn grow(m: Middle, w: &[f64], n: usize) -> Middle
     ensures { λ r. ⌜ r ≡ grownBy (barsOf (now (w .entry))) n m ⌝ }
 {
     if n < measures::count(w) {
@@ -68,7 +69,7 @@ fn middle_of_three(old: Bar, between: Bar, new: Bar) -> Middle
 }
 
 // The middle of the first window that is tried. Of fewer than five bars those between the ends enter one by one.
-pub(crate) fn first_middle(w: &[f64]) -> Middle
+pub fn first_middle(w: &[f64]) -> Middle
     ensures { λ r. ⌜ r ≡ middleAt (barsOf (now (w .entry))) 5 ⌝ }
 {
     if measures::count(w) < 5 {

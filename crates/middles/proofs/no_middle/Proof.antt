@@ -1,8 +1,8 @@
 -- The code is the definition. Assumes nothing.
 use Rattle.measures.specs.Fold.{columnOf, highestOf, lowestOf, everyOf, extremesOf}
-use Rattle.growing_rules.specs.Middle.{middleOf}
-use Rattle.growing_rules.proofs.middle.no_middle.Statement.{statement}
-use Rattle.growing_rules.proofs.middle.no_middle.Tie as tie
+use Rattle.middles.specs.MiddleSteps.{middleOf}
+use Rattle.middles.proofs.no_middle.Statement.{statement}
+use Rattle.middles.proofs.no_middle.Tie as tie
 
 returns : tie.Need-returns
 unfolding middleOf extremesOf columnOf highestOf lowestOf everyOf

@@ -1,5 +1,5 @@
--- 02, P2: the extremes of a window's middle, the bars between its first and its last, which run along as the window grows; what the code
--- asks of them; and what its scan of 17's bodies carries. No public promise cites this file: those of 4 and 17 are in GrowingRule.
+-- 02, P2: what the code asks of the extremes of a window's middle, and what its scan of 17's bodies carries. No public promise cites this file:
+-- those of 4 and 17 are in GrowingRule.
 use Prim.Native.Nat.{ℕ, _-_, min}
 use mathlib.Core.Bool.{Bool, cond, not, _&&_, _||_}
 use lib.Dec.{ltb}
@@ -14,36 +14,8 @@ use Rattle.measures.specs.Fold.{columnOf, everyOf, extremesOf}
 use Rattle.rule_types.specs.declared.label.{Label.Label, Pair.Pair}
 use Rattle.rule_types.specs.Label.{pairA}
 use Rattle.growing_rules.specs.declared.{Ends.Ends, Growing.Growing, Leaders.Leaders, Shape.Shape, Shape.the-variants.ThreeMethods, Shape.the-variants.Tower}
-use Rattle.growing_rules.specs.declared.middle.Middle.{Middle}
+use Rattle.middles.specs.declared.Middle.{Middle}
 use Rattle.growing_rules.specs.GrowingRule.{firstMatch, innerOf, threeMethods, bodiesDown, bodiesKnown, tower}
-
--- ---- the running extremes
-
--- the highest high and the lowest low by 01's folds, which pass NaN over; and whether no high, no low is NaN
-unfoldable pub middleOf : List Bar → Middle
-middleOf mid = record {
-  highest = extremesOf mid .highest;
-  lowest = extremesOf mid .lowest;
-  highs = everyOf (λ x. not (isNan x)) (columnOf High mid);
-  lows = everyOf (λ x. not (isNan x)) (columnOf Low mid);
-}
-
--- a bar enters that is older than those of the middle: its prices are the first arguments
-unfoldable pub entered : Bar → Middle → Middle
-entered b m = record {
-  highest = maxOf (b .high) (m .highest);
-  lowest = minOf (b .low) (m .lowest);
-  highs = not (isNan (b .high)) && m .highs;
-  lows = not (isNan (b .low)) && m .lows;
-}
-
--- the window of n bars grows by one: its first bar enters what ran along, whatever that is; where there is no older bar, nothing does
-unfoldable pub grownBy : List Bar → ℕ → Middle → Middle
-grownBy w n m = cond (ltb n (length w)) (entered (backOf w n) m) m
-
--- at the size of n bars
-unfoldable pub middleAt : List Bar → ℕ → Middle
-middleAt w n = middleOf (innerOf (windowOf w 1 n))
 
 -- ---- what a window needs of its ends and of these extremes: all that 4 asks but for the closes, all that 17 asks but for the bodies and the
 -- variance

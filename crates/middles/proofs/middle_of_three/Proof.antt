@@ -1,10 +1,10 @@
 -- The folds' steps, by one comparison a price. Assumes nothing.
 use mathlib.Core.Bool.{and-true}
 use Rattle.measures.specs.Fold.{columnOf, everyOf, extremesOf}
-use Rattle.growing_rules.specs.Middle.{middleOf}
-use Rattle.growing_rules.proofs.MiddleLaws.{top-of-three, bottom-of-three}
-use Rattle.growing_rules.proofs.middle.middle_of_three.Statement.{statement}
-use Rattle.growing_rules.proofs.middle.middle_of_three.Tie as tie
+use Rattle.middles.specs.MiddleSteps.{middleOf}
+use Rattle.middles.proofs.MiddleLaws.{top-of-three, bottom-of-three}
+use Rattle.middles.proofs.middle_of_three.Statement.{statement}
+use Rattle.middles.proofs.middle_of_three.Tie as tie
 
 returns : tie.Need-returns
 unfolding middleOf extremesOf columnOf everyOf

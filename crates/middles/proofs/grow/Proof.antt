@@ -3,9 +3,9 @@ use borrow.Author.Tests.{lt-ltb, le-ltb}
 use lib.ListN.{length}
 use native.Mathlib.Omega.{arith}
 use Rattle.measures.specs.Bar.{barsOf}
-use Rattle.growing_rules.specs.Middle.{grownBy}
-use Rattle.growing_rules.proofs.middle.grow.Statement.{statement}
-use Rattle.growing_rules.proofs.middle.grow.Tie as tie
+use Rattle.middles.specs.MiddleSteps.{grownBy}
+use Rattle.middles.proofs.grow.Statement.{statement}
+use Rattle.middles.proofs.grow.Tie as tie
 
 returns : tie.Need-returns
 unfolding grownBy

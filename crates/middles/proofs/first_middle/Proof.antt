@@ -2,9 +2,9 @@
 use mathlib.Core.Path.{sym}
 use native.Mathlib.Omega.{arith}
 use Rattle.measures.specs.Bar.{barsOf}
-use Rattle.growing_rules.proofs.MiddleLaws.{at-two, at-end, at-grown, three-at}
-use Rattle.growing_rules.proofs.middle.first_middle.Statement.{statement}
-use Rattle.growing_rules.proofs.middle.first_middle.Tie as tie
+use Rattle.middles.proofs.MiddleLaws.{at-two, at-end, at-grown, three-at}
+use Rattle.middles.proofs.first_middle.Statement.{statement}
+use Rattle.middles.proofs.first_middle.Tie as tie
 
 returns : tie.Need-returns
 returns c =
