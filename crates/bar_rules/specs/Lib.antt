@@ -1,1 +1,2 @@
+-- The rules of three to six newest bars.
 pub mod BarRule

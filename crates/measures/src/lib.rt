@@ -17,6 +17,7 @@ pub use prices::bars;
 pub use prices::bars::Bar;
 pub use prices::bars::body;
 pub use prices::bars::is_doji;
+pub use prices::bars::long_shadow;
 pub use prices::bars::lower;
 pub use prices::bars::upper;
 pub use prices::price;

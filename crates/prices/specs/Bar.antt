@@ -56,6 +56,10 @@ upperOf b = sub binary64 (b .high) (maxOf (b .«open») (b .close))
 unfoldable pub lowerOf : Bar → Float
 lowerOf b = sub binary64 (minOf (b .«open») (b .close)) (b .low)
 
+-- the longer shadow
+unfoldable pub longShadow : Bar → Float
+longShadow b = maxOf (upperOf b) (lowerOf b)
+
 -- 01's doji: close = open and high ≠ low; or close ≠ open and (high − low) ÷ body > th
 unfoldable pub dojiAbove : Float → Bar → Bool
 dojiAbove th b =

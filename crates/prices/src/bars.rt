@@ -1,6 +1,6 @@
 // One bar and its measures.
 ghost use mathlib.Core.Path.{_≡_};
-ghost use Rattle.prices.specs.Bar.{bodyOf, upperOf, lowerOf, dojiOf};
+ghost use Rattle.prices.specs.Bar.{bodyOf, upperOf, lowerOf, longShadow, dojiOf};
 use crate::price;
 
 // A host program lends bars in this layout.
@@ -30,6 +30,13 @@ pub fn lower(b: Bar) -> f64
     ensures { λ r. ⌜ r ≡ lowerOf b ⌝ }
 {
     price::min(b.open, b.close) - b.low
+}
+
+// The longer shadow.
+pub fn long_shadow(b: Bar) -> f64
+    ensures { λ r. ⌜ r ≡ longShadow b ⌝ }
+{
+    price::max(upper(b), lower(b))
 }
 
 // The source's check_szx at a tenth of th, which counts tenths: a flat bar is no doji. The source asks close != open before the quotient;

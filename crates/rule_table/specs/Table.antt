@@ -15,7 +15,8 @@ use Rattle.rule_types.specs.Label.{pairA, pairB}
 use Rattle.rule_types.specs.Number.{recognisers, gated, reachBars, quarterBars, gateEnd, wholeOf}
 use Rattle.quarter_rules.specs.declared.Quarter.{Quarter}
 use Rattle.quarter_rules.specs.QuarterRule.{quarterIn, quarterExtremes, sanXingXian, tenMo, fenShouXian, zhuHuoXian, fanJiXian}
-use Rattle.bar_rules.specs.BarRule.{tenCloses, wuYunGaiDing, ciTou, sanFaV20221115, yunXian, pingTou, twoCrow, gateShut, threeCrow, gapYinYang}
+use Rattle.two_bar_rules.specs.TwoBarRule.{tenCloses, wuYunGaiDing, ciTou, yunXian, pingTou}
+use Rattle.bar_rules.specs.BarRule.{sanFaV20221115, twoCrow, gateShut, threeCrow, gapYinYang}
 use Rattle.star_rules.specs.StarRule.{xingXian, szxBy, szx, sanSzxBy, sanSzx}
 use Rattle.growing_rules.specs.GrowingRule.{sanFaV20221118, taXing}
 

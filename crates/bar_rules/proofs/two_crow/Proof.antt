@@ -8,7 +8,7 @@ unfolding twoCrow
 returns c =
     simp (
       c .pick .ensures,
-      c .before .before .before .before .before .before .before .shadow .ensures,
+      c .before .before .before .before .before .before .before .long-shadow .ensures,
       c .before .before .before .before .before .before .before .before .body .ensures,
     )
 

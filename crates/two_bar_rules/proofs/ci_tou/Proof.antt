@@ -2,9 +2,9 @@
 use mathlib.Core.Path.{_∙_, sym}
 use mathlib.Core.Bool.{and-false, and-true}
 use borrow.Author.Needs.{needs}
-use Rattle.bar_rules.specs.BarRule.{ciTou}
-use Rattle.bar_rules.proofs.ci_tou.Statement.{statement}
-use Rattle.bar_rules.proofs.ci_tou.Tie as tie
+use Rattle.two_bar_rules.specs.TwoBarRule.{ciTou}
+use Rattle.two_bar_rules.proofs.ci_tou.Statement.{statement}
+use Rattle.two_bar_rules.proofs.ci_tou.Tie as tie
 
 int-to-float-fell : tie.Need-int-to-float-fell
 int-to-float-fell c = search needs

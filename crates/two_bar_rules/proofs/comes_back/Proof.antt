@@ -1,8 +1,8 @@
 -- The quotient only matters where the open lies below. Assumes nothing.
 use borrow.Author.Needs.{needs}
-use Rattle.bar_rules.specs.BarRule.{comesBack}
-use Rattle.bar_rules.proofs.comes_back.Statement.{statement}
-use Rattle.bar_rules.proofs.comes_back.Tie as tie
+use Rattle.two_bar_rules.specs.TwoBarRule.{comesBack}
+use Rattle.two_bar_rules.proofs.comes_back.Statement.{statement}
+use Rattle.two_bar_rules.proofs.comes_back.Tie as tie
 
 int-to-float-result : tie.Need-int-to-float-result
 int-to-float-result c = search needs

@@ -1,8 +1,8 @@
 -- The code is the definition.
-use Rattle.bar_rules.specs.BarRule.{flatOf}
+use Rattle.two_bar_rules.specs.TwoBarRule.{flatOf}
 use borrow.Author.Needs.{needs}
-use Rattle.bar_rules.proofs.is_flat.Statement.{statement}
-use Rattle.bar_rules.proofs.is_flat.Tie as tie
+use Rattle.two_bar_rules.proofs.is_flat.Statement.{statement}
+use Rattle.two_bar_rules.proofs.is_flat.Tie as tie
 
 int-to-float-result : tie.Need-int-to-float-result
 int-to-float-result c = search needs

@@ -1,9 +1,9 @@
 -- The quotients only matter where the open lies above. Assumes nothing.
 use mathlib.Core.Bool.{and-false, and-true}
 use borrow.Author.Needs.{needs}
-use Rattle.bar_rules.specs.BarRule.{coversOf}
-use Rattle.bar_rules.proofs.covers.Statement.{statement}
-use Rattle.bar_rules.proofs.covers.Tie as tie
+use Rattle.two_bar_rules.specs.TwoBarRule.{coversOf}
+use Rattle.two_bar_rules.proofs.covers.Statement.{statement}
+use Rattle.two_bar_rules.proofs.covers.Tie as tie
 
 int-to-float-result : tie.Need-int-to-float-result
 int-to-float-result c = search needs

@@ -1,8 +1,8 @@
 -- The closes only matter where the shape is there.
 use mathlib.Core.Path.{_∙_, sym}
-use Rattle.bar_rules.specs.BarRule.{wuYunGaiDing}
-use Rattle.bar_rules.proofs.wu_yun_gai_ding.Statement.{statement}
-use Rattle.bar_rules.proofs.wu_yun_gai_ding.Tie as tie
+use Rattle.two_bar_rules.specs.TwoBarRule.{wuYunGaiDing}
+use Rattle.two_bar_rules.proofs.wu_yun_gai_ding.Statement.{statement}
+use Rattle.two_bar_rules.proofs.wu_yun_gai_ding.Tie as tie
 
 returns : tie.Need-returns
 unfolding wuYunGaiDing

@@ -1,7 +1,7 @@
 -- The code is the definition.
-use Rattle.bar_rules.specs.BarRule.{pingTou}
-use Rattle.bar_rules.proofs.ping_tou.Statement.{statement}
-use Rattle.bar_rules.proofs.ping_tou.Tie as tie
+use Rattle.two_bar_rules.specs.TwoBarRule.{pingTou}
+use Rattle.two_bar_rules.proofs.ping_tou.Statement.{statement}
+use Rattle.two_bar_rules.proofs.ping_tou.Tie as tie
 
 returns : tie.Need-returns
 unfolding pingTou

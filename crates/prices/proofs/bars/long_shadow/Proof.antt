@@ -1,7 +1,7 @@
 -- The code is the definition.
-use Rattle.bar_rules.specs.BarRule.{longShadow}
-use Rattle.bar_rules.proofs.shadow.Statement.{statement}
-use Rattle.bar_rules.proofs.shadow.Tie as tie
+use Rattle.prices.specs.Bar.{longShadow}
+use Rattle.prices.proofs.bars.long_shadow.Statement.{statement}
+use Rattle.prices.proofs.bars.long_shadow.Tie as tie
 
 returns : tie.Need-returns
 unfolding longShadow
@@ -12,8 +12,8 @@ returns c =
       c .before .before .upper .ensures,
     )
 
-pub shadow-spec : {M : Type 1} → statement M
-shadow-spec = tie.close (tie.spec
+pub long-shadow-spec : {M : Type 1} → statement M
+long-shadow-spec = tie.close (tie.spec
     (λ c κs. tt)
     (λ c κs. tt)
     (λ c κs. tt)

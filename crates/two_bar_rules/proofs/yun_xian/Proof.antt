@@ -1,7 +1,7 @@
 -- The code is the definition.
-use Rattle.bar_rules.specs.BarRule.{yunXian}
-use Rattle.bar_rules.proofs.yun_xian.Statement.{statement}
-use Rattle.bar_rules.proofs.yun_xian.Tie as tie
+use Rattle.two_bar_rules.specs.TwoBarRule.{yunXian}
+use Rattle.two_bar_rules.proofs.yun_xian.Statement.{statement}
+use Rattle.two_bar_rules.proofs.yun_xian.Tie as tie
 
 returns : tie.Need-returns
 unfolding yunXian
@@ -11,9 +11,9 @@ returns c =
       c .before .holds-rising .ensures,
       c .before .before .pick .ensures,
       c .before .before .before .holds-falling .ensures,
-      c .before .before .before .before .shadow2 .ensures,
+      c .before .before .before .before .long-shadow2 .ensures,
       c .before .before .before .before .before .body2 .ensures,
-      c .before .before .before .before .before .before .shadow .ensures,
+      c .before .before .before .before .before .before .long-shadow .ensures,
       c .before .before .before .before .before .before .before .body .ensures,
     )
 

@@ -1,0 +1,2 @@
+-- The rules of the two newest bars.
+pub mod TwoBarRule
