@@ -11,7 +11,7 @@ use Rattle.prices.specs.Price.{maxOf, minOf}
 use Rattle.prices.specs.Bar.{noBar}
 use Rattle.measures.specs.Fold.{priceOf, columnOf, highestOf, lowestOf, everyOf}
 use Rattle.prices.proofs.Order.{lt-nan, is-nan, max-assoc, min-assoc, max-known, min-known, max-both, min-both}
-use Rattle.measures.proofs.RunLaws.{from-bar, past-bars}
+use Rattle.windows.proofs.RunLaws.{from-bar, past-bars}
 
 -- one turn: what is left to fold from the i-th bar on, its price taken in; and the end, where nothing is left
 module _ (f : Float → Float → Float) (c : Column) (bars : List Bar) (i : ℕ) where

@@ -3,10 +3,10 @@ ghost use mathlib.Core.Path.{_≡_};
 ghost use mathlib.Core.List.{[], _∷_, foldl};
 ghost use Rattle.prices.specs.Bar.{barsOf};
 ghost use Rattle.measures.specs.Fold.{priceOf, columnOf, foldStep, highestOf, lowestOf, sizeOf, meanOf, varianceOf, extremesOf, lowSide, highSide};
-use crate::windows::bar_at;
-use crate::windows::count;
+use crate::runs::bar_at;
 use prices::bars::Bar;
 use prices::price;
+use windows::count;
 
 // A price of a bar.
 pub enum Column {

@@ -2,7 +2,7 @@
 // close, high, low. All is proved, nothing is assumed, and no public function has a `requires`: each contract is an equation
 // with a definition of specs/, for every input, NaN, infinities and signs of zero included.
 pub mod folds;
-pub mod windows;
+pub mod runs;
 
 pub use folds::Column;
 pub use folds::Extremes;
@@ -26,12 +26,12 @@ pub use prices::price::is_nan;
 pub use prices::price::max;
 pub use prices::price::min;
 pub use prices::price::pick;
-pub use windows::back;
-pub use windows::bar_or_none;
+pub use runs::back;
+pub use runs::bar_or_none;
+pub use runs::put_bar;
 pub use windows::count;
 pub use windows::first_bars;
 pub use windows::last_bars;
 pub use windows::least;
-pub use windows::put_bar;
 pub use windows::up_to;
 pub use windows::window;

@@ -96,11 +96,11 @@ pub fn pick(c: bool, x: Label, y: Label) -> Label
     if c { x } else { y }
 }
 
-// x if c holds, else y.
-pub fn pick_pair(c: bool, x: Pair, y: Pair) -> Pair
-    ensures { λ r. ⌜ r ≡ cond c x y ⌝ }
+// p if c holds, else q.
+pub fn pick_pair(c: bool, p: Pair, q: Pair) -> Pair
+    ensures { λ r. ⌜ r ≡ cond c p q ⌝ }
 {
-    if c { x } else { y }
+    if c { p } else { q }
 }
 
 // The short pairs: A is 其他/其他, B is 其他/任意.

@@ -14,7 +14,7 @@ mod hex;
 mod number;
 mod output;
 mod session;
-mod thresholds;
+mod threshold_bytes;
 
 use libc::STDIN_FILENO;
 use session::Session;

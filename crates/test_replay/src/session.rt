@@ -18,7 +18,7 @@ use crate::hex::LONGEST;
 use crate::hex::decode;
 use crate::number::u32_at;
 use crate::output::Output;
-use crate::thresholds::read;
+use crate::threshold_bytes::read;
 use recognisers::Thresholds;
 use recognisers::export::BAR_BYTES;
 

@@ -60,9 +60,9 @@ use Rattle.records.specs.declared.Window.{Window}
 use Rattle.records.specs.Held.{windowBars}
 use Rattle.records.proofs.HeldLaws.{withBar, no-bars, next-bar}
 use Rattle.records.proofs.Walk.{own, own-usize}
-use Rattle.measures.proofs.windows.put_bar as put
-use Rattle.measures.proofs.windows.put_bar.Symbol as put-def
-use Rattle.measures.proofs.windows.put_bar.Met as put-thm
+use Rattle.measures.proofs.runs.put_bar as put
+use Rattle.measures.proofs.runs.put_bar.Symbol as put-def
+use Rattle.measures.proofs.runs.put_bar.Met as put-thm
 use Rattle.prices.proofs.bars.Bar as T
 use Rattle.prices.proofs.bars.Bar.Laws as T′
 use Rattle.records.proofs.Window as N
@@ -352,4 +352,4 @@ gathered-spec 𝓤 H 𝓜 𝓖 𝓡 =
     entered 𝓤 H (tripleOf 𝓤 H (𝓖 .A) f.signature (f.spec 𝓤 H (𝓖 .A) (𝓜 .mem) (𝓡 .run)))
     (tables 𝓤 H 𝓜 𝓡 code.env .C) (tables 𝓤 H 𝓜 𝓡 code.env .Λ) #records·gathered code.function (code.unfolded 𝓤 H 𝓜 𝓡)
     (gathered-meets 𝓤 H (𝓖 .A) (givenOf 𝓤 H 𝓜 𝓖) (𝓜 .mem) (𝓡 .run) (tablesOf 𝓤 H 𝓜 (tables 𝓤 H 𝓜 𝓡 code.env))
-    (cited 𝓤 H (Put 𝓤 H (𝓖 .A) (𝓜 .mem) (𝓡 .run)) 𝓜 𝓡 code.env put-def.name put-def.routine code.calls-measures·windows·put-bar (put-thm.met 𝓤 H 𝓜 𝓖 𝓡)))
+    (cited 𝓤 H (Put 𝓤 H (𝓖 .A) (𝓜 .mem) (𝓡 .run)) 𝓜 𝓡 code.env put-def.name put-def.routine code.calls-measures·runs·put-bar (put-thm.met 𝓤 H 𝓜 𝓖 𝓡)))

@@ -1,0 +1,2 @@
+-- Document 01's section "The window".
+pub mod Window
