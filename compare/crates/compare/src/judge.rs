@@ -1,7 +1,7 @@
 //! One call three ways: the export, the plain port and the repository, where it has a say.
 
+use crate::families;
 use crate::tally::Tally;
-use crate::work;
 use inputs::hostile;
 use inputs::known::Known;
 use inputs::rng::Rng;
@@ -16,7 +16,7 @@ pub struct Difference(pub String);
 
 impl Difference {
     fn seen_in(self, family: usize) -> Difference {
-        let name = work::family_names().nth(family).unwrap_or("none");
+        let name = families::names().nth(family).unwrap_or("none");
         Difference(format!("family {name}\n{}", self.0))
     }
 }

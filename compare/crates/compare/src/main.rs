@@ -1,6 +1,7 @@
 //! Compares the export `jcc_label` with the repository's own functions, and both with the plain
 //! port, which judges alone where the repository has no say. Stops at the first difference.
 
+mod families;
 mod judge;
 mod options;
 mod replay;

@@ -1,6 +1,6 @@
 //! What was called and what came out.
 
-use crate::work;
+use crate::families;
 use inputs::pairs::possible;
 use inputs::tenths;
 use jcc_types::{LABELS, NAMES, RECOGNISERS};
@@ -25,7 +25,7 @@ pub struct Tally {
 impl Tally {
     pub fn new() -> Tally {
         Tally {
-            calls: vec![[0; COLUMNS]; work::family_names().count()],
+            calls: vec![[0; COLUMNS]; families::names().count()],
             repository: [0; RECOGNISERS],
             corners: [[0; 2]; Corner::ALL.len()],
             between: [0; RECOGNISERS],
@@ -106,7 +106,7 @@ impl Tally {
     fn print_calls(&self) {
         println!("\nCalls by recogniser and family; the last column: judged by the repository");
         print!("{:20}", "");
-        for name in work::family_names() {
+        for name in families::names() {
             print!("{name:>11}");
         }
         println!("{:>12}", "repository");

@@ -323,10 +323,13 @@ fn check_ordinal(
     Ok(expected)
 }
 
+/// An export that feeds a fresh box and then looks at it.
+type LookExport = fn(u32, u32, &Thresholds, &[u32], &[f64], &mut [u8]) -> u32;
+
 /// What an export says of a look, if the sheet that it leaves is that of the feeds.
 fn ask(
     name: &str,
-    export: fn(u32, u32, &Thresholds, &[u32], &[f64], &mut [u8]) -> u32,
+    export: LookExport,
     rows: &[u8],
     trial: &Trial,
     look: Look,

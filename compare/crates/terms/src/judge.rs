@@ -1,5 +1,6 @@
 //! Whether the export and the plain layer give what a list of calls must give.
 
+use crate::calls;
 use crate::noted;
 use crate::recut;
 use crate::seen::{Kind, Seen};
@@ -82,7 +83,7 @@ impl Judge {
     }
 
     fn check(&mut self, trial: &Trial) -> Result<Agreed, String> {
-        let told = Told::of(trial, &mut self.seen);
+        let told = calls::tell(trial, &mut self.seen);
         noted::terms(&told, &mut self.seen);
         let rows = one_feed(trial, &told)?;
         let agreed = Agreed { told, rows };

@@ -2,6 +2,7 @@
 //! calls, and the rows with one feed of the ended term bars, by `jcc_feed` and by the plain box. Stops
 //! at the first difference.
 
+mod calls;
 mod examples;
 mod hours;
 mod judge;

@@ -11,6 +11,7 @@ use answers::Answers;
 use inputs::boundaries::{self, Boundary};
 use inputs::families::{FAMILIES, LONG};
 use inputs::rng::Rng;
+use inputs::thresholds::NAMED_TENTHS;
 use inputs::{Case, known, middles, refusals, tenths};
 use jcc_types::{RECOGNISERS, Thresholds};
 use std::collections::BTreeSet;
@@ -200,7 +201,7 @@ fn add_middles(list: &mut Answers) {
 /// Both sides of a doji's edge with thresholds in tenths, the last of which is refused.
 fn add_tenths(list: &mut Answers) {
     let refused = Thresholds::MOST_TENTHS + 1;
-    for th in tenths::NAMED.into_iter().chain([refused]) {
+    for th in NAMED_TENTHS.into_iter().chain([refused]) {
         for case in tenths::sides(th) {
             list.add(&case, &tenths::RECOGNISERS);
         }
