@@ -1,7 +1,7 @@
 //! The parts of a run. Each is small, so that the threads end together.
 
 use crate::families::{EDGES, EXHAUSTIVE, KNOWN, MIDDLES, REFUSALS, SIGNALLING};
-use crate::judge::{Difference, Judge};
+use crate::judge::Judge;
 use crate::options::Options;
 use inputs::families::{FAMILIES, LONG};
 use inputs::grids::{GRIDS, Grid};
@@ -9,6 +9,7 @@ use inputs::middles::{self, Window};
 use inputs::rng::Rng;
 use inputs::{Case, known, refusals, tenths, walk};
 use jcc_types::{BAR_BYTES, Bar, MAX_BARS, RECOGNISERS};
+use program::Difference;
 use std::ops::Range;
 
 /// The calls for each recogniser in a part of a random family.

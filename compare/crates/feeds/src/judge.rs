@@ -16,9 +16,7 @@ use inputs::{cuts, hostile, looks, tallies};
 use jcc_types::{Bar, Label, MOST_OFFSET, Pair, RECOGNISERS, REFUSED, ROW_BYTES, Thresholds};
 use oracle::{Oracle, Verdict};
 use port::{Looked, PlainBox};
-
-/// A difference, with all that is needed to see it again.
-pub struct Difference(pub String);
+use program::Difference;
 
 /// Bytes of a sheet past the rows: none, or less or more than a row.
 const SPARE: [usize; 6] = [0, 0, 1, ROW_BYTES - 1, ROW_BYTES, 100];
@@ -39,7 +37,7 @@ impl Judge {
     pub fn new() -> Judge {
         Judge {
             oracle: Oracle::new(),
-            tally: Tally::new(),
+            tally: Tally::default(),
         }
     }
 

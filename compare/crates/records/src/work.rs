@@ -1,11 +1,12 @@
 //! The parts of a run. Each is small, so that the threads end together.
 
-use crate::judge::{Difference, Judge};
+use crate::judge::Judge;
 use crate::options::Options;
 use inputs::families::{FAMILIES, Family};
 use inputs::rng::Rng;
 use inputs::{Case, hostile, known, refusals, thresholds, walk};
 use jcc_types::{Bar, MAX_BARS, RECOGNISERS, Thresholds};
+use program::Difference;
 
 /// The calls in a part of a random family.
 const PART: u64 = 20_000;

@@ -9,10 +9,8 @@ use crate::trial::Trial;
 use inputs::rng::Rng;
 use jcc_types::{BAR_PRICES, NAMES, ROW_BYTES};
 use lent::Lent;
+use program::Difference;
 use std::time::{Duration, Instant};
-
-/// A difference, with all that is needed to see it again.
-pub struct Difference(pub String);
 
 /// A difference in a trial with more bars than this is not made simpler.
 const MOST_SIMPLIFIED: usize = 10_000;
@@ -33,7 +31,9 @@ pub struct Agreed {
 
 impl Judge {
     pub fn new() -> Judge {
-        Judge { seen: Seen::new() }
+        Judge {
+            seen: Seen::default(),
+        }
     }
 
     /// A list of calls, then what it accepted in other cuts.

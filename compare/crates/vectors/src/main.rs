@@ -49,6 +49,10 @@ fn main() -> ExitCode {
         eprintln!("vectors FOLDER");
         return ExitCode::FAILURE;
     };
+    program::main("vectors", || write(&folder))
+}
+
+fn write(folder: &str) -> Result<(), String> {
     let mut list = Answers::new();
     known::all().iter().for_each(|k| list.add_known(k));
     add_lengths(&mut list);
@@ -58,16 +62,10 @@ fn main() -> ExitCode {
     add_middles(&mut list);
     add_tenths(&mut list);
     add_refusals(&mut list);
-    match list.write(Path::new(&folder)) {
-        Ok(()) => {
-            println!("{}", list.summary());
-            ExitCode::SUCCESS
-        }
-        Err(e) => {
-            eprintln!("vectors: {folder}: {e}");
-            ExitCode::FAILURE
-        }
-    }
+    list.write(Path::new(folder))
+        .map_err(|e| format!("{folder}: {e}"))?;
+    println!("{}", list.summary());
+    Ok(())
 }
 
 /// Fills a case from a family; false if it is too long for the list.
