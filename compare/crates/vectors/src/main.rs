@@ -1,4 +1,4 @@
-//! Writes a list of the repository's answers, for a program that replays it without the repository:
+//! Writes a list of the repository's answers, for the program test_replay, which needs no repository:
 //! `stdin` with the calls and `stdout` with one answer a line, in the folder that is given.
 //!
 //! Refusals, which the repository doesn't have, and the answers where it has no say, in 01's two
