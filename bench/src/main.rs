@@ -20,19 +20,16 @@ const FIFTH: f64 = 0.2;
 const MARKS: [usize; 3] = [FEW, CALLS, FEEDS];
 
 fn main() -> ExitCode {
+    program::main("bench", run)
+}
+
+fn run() -> Result<(), String> {
     let mut rng = Rng::stream(SEED, 0, 0);
     let walked = Walked::new(walk::market(&mut rng, FEEDS));
     let mut rows = rows::all(&walked);
-    match measure(&mut rows) {
-        Ok(measured) => {
-            print(&rows, &measured);
-            ExitCode::SUCCESS
-        }
-        Err(message) => {
-            eprintln!("bench: {message}");
-            ExitCode::FAILURE
-        }
-    }
+    let measured = measure(&mut rows)?;
+    print(&rows, &measured);
+    Ok(())
 }
 
 /// What the rounds of all rows gave.

@@ -43,6 +43,18 @@ pub fn ratio(rate: f64, to: f64) -> String {
     format!("{:.2}x", rate / to)
 }
 
+/// Best and median of two, and the ratios of the second to the first.
+pub fn columns(one: &Rates, other: &Rates) -> String {
+    let [best, median] = [Rates::best, Rates::median].map(|rate| ratio(rate(other), rate(one)));
+    let rates = [one.best(), one.median(), other.best(), other.median()];
+    let rates = rates.map(|rate| format!("{rate:>8.3}")).concat();
+    format!("{rates}{best:>8}{median:>8}")
+}
+
+pub fn column_titles() -> String {
+    format!("{:>8}{:>8}", "best", "median").repeat(3)
+}
+
 /// A hash over all pairs in their order (FNV-1a over words).
 pub fn digest(sheet: &[u8]) -> u64 {
     let (pairs, _) = sheet.as_chunks();

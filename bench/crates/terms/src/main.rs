@@ -7,7 +7,7 @@ use inputs::rng::Rng;
 use inputs::walk;
 use jcc_types::{Bar, ROW_BYTES};
 use layers::{LAYERS, Work};
-use measure::{Rates, SEED, digest, ratio};
+use measure::{Rates, SEED, column_titles, columns, digest};
 use std::process::ExitCode;
 use terms_model::{DAY, MINUTES};
 
@@ -22,13 +22,7 @@ const HOURS: [u32; 4] = [570, 690, 780, 900];
 const SIZES: [(usize, &str); 2] = [(4096, "4,096 bars"), (1, "1 bar")];
 
 fn main() -> ExitCode {
-    match measure() {
-        Ok(()) => ExitCode::SUCCESS,
-        Err(message) => {
-            eprintln!("bench: {message}");
-            ExitCode::FAILURE
-        }
-    }
+    program::main("bench", measure)
 }
 
 fn measure() -> Result<(), String> {
@@ -102,16 +96,8 @@ impl Measured {
 
     fn print(&self) {
         for ((_, size), [plain, ours]) in SIZES.iter().zip(&self.rates) {
-            println!(
-                "{:32}{:>8.3}{:>8.3}{:>8.3}{:>8.3}{:>8}{:>8}",
-                format!("{} minutes, runs of {size}", self.minutes),
-                plain.best(),
-                plain.median(),
-                ours.best(),
-                ours.median(),
-                ratio(ours.best(), plain.best()),
-                ratio(ours.median(), plain.median()),
-            );
+            let title = format!("{} minutes, runs of {size}", self.minutes);
+            println!("{title:32}{}", columns(plain, ours));
         }
     }
 
@@ -128,8 +114,7 @@ fn print(all: &[Measured]) {
     println!("{BARS} minute bars, hours {HOURS:?}, {ROUNDS} rounds; million minute bars a second");
     let [plain, ours] = LAYERS.map(|layer| layer.name);
     println!("{:32}{plain:>16}{ours:>16}{:>16}", "", "ratio");
-    let rates = format!("{:>8}{:>8}", "best", "median");
-    println!("{:32}{}", "", rates.repeat(3));
+    println!("{:32}{}", "", column_titles());
     all.iter().for_each(Measured::print);
     all.iter().for_each(Measured::print_given);
 }

@@ -7,7 +7,7 @@ mod versions;
 mod walks;
 
 use jcc_types::{MAX_BARS, ROW_BYTES};
-use measure::{Rates, digest, feed, ratio};
+use measure::{Rates, column_titles, columns, digest, feed};
 use std::process::ExitCode;
 use versions::VERSIONS;
 use walks::{Labels, WALKS, Walk};
@@ -19,18 +19,11 @@ const SIZES: [(usize, &str); 3] = [(4096, "4,096 bars"), (64, "64 bars"), (1, "1
 
 fn main() -> ExitCode {
     let arguments: Vec<String> = std::env::args().skip(1).collect();
-    let done = match &arguments[..] {
+    program::main("turns", || match &arguments[..] {
         [] => compare(),
         [version, walk, size, bars] => feed_once(version, walk, size, bars),
         _ => Err(String::from("no arguments, or VERSION WALK SIZE BARS")),
-    };
-    match done {
-        Ok(()) => ExitCode::SUCCESS,
-        Err(message) => {
-            eprintln!("turns: {message}");
-            ExitCode::FAILURE
-        }
-    }
+    })
 }
 
 fn feed_once(version: &str, walk: &str, size: &str, bars: &str) -> Result<(), String> {
@@ -97,16 +90,8 @@ impl Measured {
 
     fn print(&self) {
         for ((_, size), [before, after]) in SIZES.iter().zip(&self.rates) {
-            println!(
-                "{:36}{:>8.3}{:>8.3}{:>8.3}{:>8.3}{:>8}{:>8}",
-                format!("{}, feeds of {size}", self.walk.title),
-                before.best(),
-                before.median(),
-                after.best(),
-                after.median(),
-                ratio(after.best(), before.best()),
-                ratio(after.median(), before.median()),
-            );
+            let title = format!("{}, feeds of {size}", self.walk.title);
+            println!("{title:36}{}", columns(before, after));
         }
     }
 
@@ -125,8 +110,7 @@ fn print(all: &[Measured]) {
     println!("18 recognisers a bar, {MAX_BARS} bars, {ROUNDS} rounds; million bars a second");
     let [before, after, ratio] = ["before", "after", "after/before"];
     println!("{:36}{before:>16}{after:>16}{ratio:>16}", "");
-    let rates = format!("{:>8}{:>8}", "best", "median");
-    println!("{:36}{}", "", rates.repeat(3));
+    println!("{:36}{}", "", column_titles());
     for measured in all {
         measured.print();
     }

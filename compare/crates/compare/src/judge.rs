@@ -1,25 +1,16 @@
 //! One call three ways: the export, the plain port and the repository, where it has a say.
 
+use crate::families;
 use crate::tally::Tally;
-use crate::work;
 use inputs::hostile;
 use inputs::known::Known;
 use inputs::rng::Rng;
 use inputs::{Case, report};
 use jcc_types::{Answer, BAR_BYTES, Bar, REFUSED, Thresholds};
 use oracle::{Oracle, Verdict};
+use program::Difference;
 use std::fmt::Write;
 use std::iter;
-
-/// A difference, with all that is needed to see it again.
-pub struct Difference(pub String);
-
-impl Difference {
-    fn seen_in(self, family: usize) -> Difference {
-        let name = work::family_names().nth(family).unwrap_or("none");
-        Difference(format!("family {name}\n{}", self.0))
-    }
-}
 
 /// The answers to one call; the repository has not always one.
 struct Answers {
@@ -56,7 +47,7 @@ impl Judge {
         Judge {
             oracle: Oracle::new(),
             bytes: Bytes::new(),
-            tally: Tally::new(),
+            tally: Tally::default(),
         }
     }
 
@@ -91,7 +82,7 @@ impl Judge {
     ) -> Result<(), Difference> {
         let answers = self.answers(k, offset, case);
         if answers.differ() {
-            return Err(self.smallest(k, offset, case).seen_in(family));
+            return Err(in_family(family, self.smallest(k, offset, case)));
         }
         match answers.repository {
             Verdict::Answer(answer) => self.tally.count(family, k, answer),
@@ -165,7 +156,7 @@ impl Judge {
                 let answers = [("quiet", call(&quiet)), ("signalling", call(&loud))];
                 if answers[0].1 != answers[1].1 {
                     let found = difference(*k as u32, *offset, case, &answers);
-                    return Err(found.seen_in(family));
+                    return Err(in_family(family, found));
                 }
                 self.tally.count_only(family, *k);
             }
@@ -200,7 +191,7 @@ impl Judge {
             let answers = [("jcc_label", ours), ("01", expected)];
             let Difference(mut text) = difference(recogniser, offset, &case, &answers);
             writeln!(text, "over {} bytes of bars", bytes.len()).expect("text grows");
-            return Err(Difference(text).seen_in(family));
+            return Err(in_family(family, Difference(text)));
         }
         self.tally.count_only(family, recogniser as usize);
         Ok(())
@@ -220,7 +211,8 @@ impl Judge {
             let answers = [("answered", port), ("printed", known.pair.number())];
             let Difference(text) =
                 difference(known.recogniser as u32, known.offset, &case, &answers);
-            return Err(Difference(format!("{}\n{text}", known.name)).seen_in(family));
+            let found = Difference(format!("{}\n{text}", known.name));
+            return Err(in_family(family, found));
         }
         if let Some(printed) = known.repository {
             let repository = self.oracle.label(known.recogniser, known.offset);
@@ -234,6 +226,11 @@ impl Judge {
         }
         Ok(())
     }
+}
+
+fn in_family(family: usize, Difference(text): Difference) -> Difference {
+    let name = families::names().nth(family).unwrap_or("none");
+    Difference(format!("family {name}\n{text}"))
 }
 
 fn difference(k: u32, offset: u32, case: &Case, answers: &[(&str, u32)]) -> Difference {

@@ -1,5 +1,6 @@
 //! The command line.
 
+use program::number;
 use std::path::PathBuf;
 
 const USAGE: &str = "compare [--seed N] [--calls N] [--list FOLDER]";
@@ -23,17 +24,12 @@ impl Options {
         while let Some(name) = arguments.next() {
             let value = arguments.next().ok_or(USAGE)?;
             match name.as_str() {
-                "--seed" => options.seed = number(&value)?,
-                "--calls" => options.calls = number(&value)?,
+                "--seed" => options.seed = number(&value, USAGE)?,
+                "--calls" => options.calls = number(&value, USAGE)?,
                 "--list" => options.list = Some(PathBuf::from(value)),
                 _ => return Err(USAGE.to_string()),
             }
         }
         Ok(options)
     }
-}
-
-fn number(text: &str) -> Result<u64, String> {
-    text.parse()
-        .map_err(|_| format!("{text} is no number; {USAGE}"))
 }

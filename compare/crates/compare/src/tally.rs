@@ -1,10 +1,11 @@
 //! What was called and what came out.
 
-use crate::work;
-use inputs::pairs::possible;
+use crate::families;
+use inputs::pairs::{PLACES, place, possible};
 use inputs::tenths;
 use jcc_types::{LABELS, NAMES, RECOGNISERS};
 use oracle::corner::Corner;
+use program::add_counts;
 
 /// One more than the recognisers: refused numbers are counted together.
 const COLUMNS: usize = RECOGNISERS + 1;
@@ -18,21 +19,23 @@ pub struct Tally {
     corners: [[u64; 2]; Corner::ALL.len()],
     /// Calls of 13 and 14 between multiples of ten, by recogniser.
     between: [u64; RECOGNISERS],
-    /// The repository's pairs by recogniser, at v1 × 38 + v2.
+    /// The repository's pairs by recogniser, at their places.
     pairs: Vec<Vec<u64>>,
 }
 
-impl Tally {
-    pub fn new() -> Tally {
+impl Default for Tally {
+    fn default() -> Tally {
         Tally {
-            calls: vec![[0; COLUMNS]; work::family_names().count()],
+            calls: vec![[0; COLUMNS]; families::names().count()],
             repository: [0; RECOGNISERS],
             corners: [[0; 2]; Corner::ALL.len()],
             between: [0; RECOGNISERS],
-            pairs: vec![vec![0; LABELS.len() * LABELS.len()]; RECOGNISERS],
+            pairs: vec![vec![0; PLACES]; RECOGNISERS],
         }
     }
+}
 
+impl Tally {
     /// A call that the repository judged.
     pub fn count(&mut self, family: usize, k: usize, pair: u32) {
         self.count_only(family, k);
@@ -55,19 +58,6 @@ impl Tally {
     /// A call that something else judged.
     pub fn count_only(&mut self, family: usize, k: usize) {
         self.calls[family][k.min(RECOGNISERS)] += 1;
-    }
-
-    pub fn add(&mut self, other: &Tally) {
-        add(self.calls.as_flattened_mut(), other.calls.as_flattened());
-        add(&mut self.repository, &other.repository);
-        add(
-            self.corners.as_flattened_mut(),
-            other.corners.as_flattened(),
-        );
-        add(&mut self.between, &other.between);
-        for (mine, more) in self.pairs.iter_mut().zip(&other.pairs) {
-            add(mine, more);
-        }
     }
 
     pub fn calls(&self) -> u64 {
@@ -96,17 +86,10 @@ impl Tally {
         Ok(())
     }
 
-    pub fn print(&self) {
-        self.print_calls();
-        self.print_corners();
-        self.print_between();
-        self.print_pairs();
-    }
-
     fn print_calls(&self) {
         println!("\nCalls by recogniser and family; the last column: judged by the repository");
         print!("{:20}", "");
-        for name in work::family_names() {
+        for name in families::names() {
             print!("{name:>11}");
         }
         println!("{:>12}", "repository");
@@ -151,12 +134,24 @@ impl Tally {
     }
 }
 
-fn add(sums: &mut [u64], more: &[u64]) {
-    for (sum, n) in sums.iter_mut().zip(more) {
-        *sum += n;
+impl program::Tally for Tally {
+    fn add(&mut self, other: &Tally) {
+        add_counts(self.calls.as_flattened_mut(), other.calls.as_flattened());
+        add_counts(&mut self.repository, &other.repository);
+        add_counts(
+            self.corners.as_flattened_mut(),
+            other.corners.as_flattened(),
+        );
+        add_counts(&mut self.between, &other.between);
+        for (mine, more) in self.pairs.iter_mut().zip(&other.pairs) {
+            add_counts(mine, more);
+        }
     }
-}
 
-fn place(pair: u32) -> usize {
-    (pair / 256) as usize * LABELS.len() + (pair % 256) as usize
+    fn print(&self) {
+        self.print_calls();
+        self.print_corners();
+        self.print_between();
+        self.print_pairs();
+    }
 }

@@ -1,6 +1,7 @@
 //! The parts of a run. Each is small, so that the threads end together.
 
-use crate::judge::{Difference, Judge};
+use crate::families::{EDGES, EXHAUSTIVE, KNOWN, MIDDLES, REFUSALS, SIGNALLING};
+use crate::judge::Judge;
 use crate::options::Options;
 use inputs::families::{FAMILIES, LONG};
 use inputs::grids::{GRIDS, Grid};
@@ -8,27 +9,8 @@ use inputs::middles::{self, Window};
 use inputs::rng::Rng;
 use inputs::{Case, known, refusals, tenths, walk};
 use jcc_types::{BAR_BYTES, Bar, MAX_BARS, RECOGNISERS};
+use program::Difference;
 use std::ops::Range;
-
-/// The families after the random ones.
-const OTHERS: [&str; 6] = [
-    "signalling",
-    "exhaustive",
-    "middles",
-    "edges",
-    "refusals",
-    "known",
-];
-const SIGNALLING: usize = FAMILIES.len();
-const EXHAUSTIVE: usize = SIGNALLING + 1;
-const MIDDLES: usize = SIGNALLING + 2;
-const EDGES: usize = SIGNALLING + 3;
-const REFUSALS: usize = SIGNALLING + 4;
-const KNOWN: usize = SIGNALLING + 5;
-
-pub fn family_names() -> impl Iterator<Item = &'static str> {
-    FAMILIES.iter().map(|f| f.name).chain(OTHERS)
-}
 
 /// The calls for each recogniser in a part of a random family.
 const PART_CALLS: u64 = 20_000;

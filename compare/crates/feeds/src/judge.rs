@@ -16,9 +16,7 @@ use inputs::{cuts, hostile, looks, tallies};
 use jcc_types::{Bar, Label, MOST_OFFSET, Pair, RECOGNISERS, REFUSED, ROW_BYTES, Thresholds};
 use oracle::{Oracle, Verdict};
 use port::{Looked, PlainBox};
-
-/// A difference, with all that is needed to see it again.
-pub struct Difference(pub String);
+use program::Difference;
 
 /// Bytes of a sheet past the rows: none, or less or more than a row.
 const SPARE: [usize; 6] = [0, 0, 1, ROW_BYTES - 1, ROW_BYTES, 100];
@@ -39,7 +37,7 @@ impl Judge {
     pub fn new() -> Judge {
         Judge {
             oracle: Oracle::new(),
-            tally: Tally::new(),
+            tally: Tally::default(),
         }
     }
 
@@ -323,10 +321,13 @@ fn check_ordinal(
     Ok(expected)
 }
 
+/// An export that feeds a fresh box and then looks at it.
+type LookExport = fn(u32, u32, &Thresholds, &[u32], &[f64], &mut [u8]) -> u32;
+
 /// What an export says of a look, if the sheet that it leaves is that of the feeds.
 fn ask(
     name: &str,
-    export: fn(u32, u32, &Thresholds, &[u32], &[f64], &mut [u8]) -> u32,
+    export: LookExport,
     rows: &[u8],
     trial: &Trial,
     look: Look,

@@ -12,35 +12,20 @@ mod text;
 mod trial;
 mod work;
 
-use judge::{Difference, Judge};
-use parts::Histories;
+use judge::Judge;
+use program::Histories;
 use std::process::ExitCode;
-use std::time::Instant;
-use tally::Tally;
 use work::Work;
 
 fn main() -> ExitCode {
-    match Histories::from_arguments("feeds").and_then(|options| compare(&options)) {
-        Ok(()) => ExitCode::SUCCESS,
-        Err(message) => {
-            eprintln!("feeds: {message}");
-            ExitCode::FAILURE
-        }
-    }
+    program::main("feeds", || compare(&Histories::from_arguments("feeds")?))
 }
 
 fn compare(options: &Histories) -> Result<(), String> {
     println!("seed {}, {} histories", options.seed, options.histories);
-    let start = Instant::now();
-    let (judges, difference) = parts::run(&work::all(options), Judge::new, Work::run);
-    if let Some(Difference(text)) = difference {
-        return Err(format!("DIFFERENCE\n{text}"));
-    }
-    let mut tally = Tally::new();
-    judges.iter().for_each(|judge| tally.add(&judge.tally));
-    tally.print();
+    let parts = work::all(options);
+    let tally = program::compare(&parts, Judge::new, Work::run, |judge| judge.tally)?;
     tally.check_ordinals()?;
-    println!("{:.0} seconds", start.elapsed().as_secs_f64());
     println!(
         "feeds: {} rows, {} tallies, {} looks, {} ordinals, 0 differences",
         tally.rows,

@@ -1,7 +1,6 @@
 //! Calls that are refused, with one reason and with several, and their neighbours that are not.
 
 use crate::counts::Counts;
-use crate::judge::Difference;
 use crate::ordinal::{self, Ordinal};
 use crate::sheet::Sheet;
 use crate::tally::Tally;
@@ -10,6 +9,7 @@ use inputs::looks::Look;
 use inputs::{refusals, tallies};
 use jcc_types::{Answer, BAR_PRICES, Bar, MAX_BARS, REFUSED, ROW_BYTES, TALLY_COUNTS, Thresholds};
 use port::PlainBox;
+use program::Difference;
 
 /// Accepted calls have no more bars than this; a longer one is not a matter of refusals.
 const MOST_ACCEPTED: usize = 100;

@@ -2,9 +2,10 @@
 
 use crate::ordinal::Ordinal;
 use inputs::families::PIECES;
-use inputs::pairs::possible;
-use jcc_types::{LABELS, RECOGNISERS};
+use inputs::pairs::{PLACES, place, possible};
+use jcc_types::RECOGNISERS;
 use oracle::corner::Corner;
+use program::add_counts;
 
 /// The kinds of ordinals: the last two are 0.
 const ORDINALS: [&str; 3] = ["of a bar", "beyond the history", "in a refused call"];
@@ -33,12 +34,12 @@ pub struct Tally {
     pub refusals: u64,
     /// Pairs in each corner, and how many of them the repository answers otherwise than 01.
     corners: [[u64; 2]; Corner::ALL.len()],
-    /// The pairs that the repository gave, by recogniser, at v1 × 38 + v2.
+    /// The pairs that the repository gave, by recogniser, at their places.
     seen: Vec<Vec<bool>>,
 }
 
-impl Tally {
-    pub fn new() -> Tally {
+impl Default for Tally {
+    fn default() -> Tally {
         Tally {
             histories: [[0; 2]; PIECES.len()],
             judged: 0,
@@ -52,16 +53,18 @@ impl Tally {
             ordinals: [0; ORDINALS.len()],
             refusals: 0,
             corners: [[0; 2]; Corner::ALL.len()],
-            seen: vec![vec![false; LABELS.len() * LABELS.len()]; RECOGNISERS],
+            seen: vec![vec![false; PLACES]; RECOGNISERS],
         }
     }
+}
 
+impl Tally {
     pub fn count_history(&mut self, family: usize, bars: usize) {
-        add(&mut self.histories[family], &[1, bars as u64]);
+        add_counts(&mut self.histories[family], &[1, bars as u64]);
     }
 
     pub fn count_corner(&mut self, corner: Corner, differs: bool) {
-        add(&mut self.corners[corner as usize], &[1, differs.into()]);
+        add_counts(&mut self.corners[corner as usize], &[1, differs.into()]);
     }
 
     /// A pair that the repository gave.
@@ -71,7 +74,7 @@ impl Tally {
     }
 
     pub fn see_look(&mut self, other: bool) {
-        add(&mut self.looked, &[1, other.into()]);
+        add_counts(&mut self.looked, &[1, other.into()]);
     }
 
     pub fn see_ordinal(&mut self, ordinal: Ordinal) {
@@ -96,7 +99,23 @@ impl Tally {
         }
     }
 
-    pub fn add(&mut self, more: &Tally) {
+    /// Pairs seen among those that the recognisers can give.
+    fn coverage(&self) -> [usize; 2] {
+        let seen = |k: usize| {
+            possible(k)
+                .iter()
+                .filter(|p| self.seen[k][place(p.number())])
+                .count()
+        };
+        [
+            (0..RECOGNISERS).map(seen).sum(),
+            (0..RECOGNISERS).map(|k| possible(k).len()).sum(),
+        ]
+    }
+}
+
+impl program::Tally for Tally {
+    fn add(&mut self, more: &Tally) {
         for (sum, n) in [
             (&mut self.judged, more.judged),
             (&mut self.given, more.given),
@@ -109,17 +128,17 @@ impl Tally {
         ] {
             *sum += n;
         }
-        add(&mut self.looked, &more.looked);
-        add(&mut self.ordinals, &more.ordinals);
+        add_counts(&mut self.looked, &more.looked);
+        add_counts(&mut self.ordinals, &more.ordinals);
         let histories = self.histories.as_flattened_mut();
-        add(histories, more.histories.as_flattened());
-        add(self.corners.as_flattened_mut(), more.corners.as_flattened());
+        add_counts(histories, more.histories.as_flattened());
+        add_counts(self.corners.as_flattened_mut(), more.corners.as_flattened());
         for (mine, more) in self.seen.iter_mut().zip(&more.seen) {
             mine.iter_mut().zip(more).for_each(|(a, b)| *a |= b);
         }
     }
 
-    pub fn print(&self) {
+    fn print(&self) {
         println!("\n{:12}{:>11}{:>11}", "", "histories", "bars");
         for (family, [histories, bars]) in PIECES.iter().zip(self.histories) {
             println!("{:12}{histories:>11}{bars:>11}", family.name);
@@ -155,28 +174,4 @@ impl Tally {
             println!("Corner {corner:?}: {pairs} pairs, the repository differs in {differ}");
         }
     }
-
-    /// Pairs seen among those that the recognisers can give.
-    fn coverage(&self) -> [usize; 2] {
-        let seen = |k: usize| {
-            possible(k)
-                .iter()
-                .filter(|p| self.seen[k][place(p.number())])
-                .count()
-        };
-        [
-            (0..RECOGNISERS).map(seen).sum(),
-            (0..RECOGNISERS).map(|k| possible(k).len()).sum(),
-        ]
-    }
-}
-
-fn add(sums: &mut [u64], more: &[u64]) {
-    for (sum, n) in sums.iter_mut().zip(more) {
-        *sum += n;
-    }
-}
-
-fn place(pair: u32) -> usize {
-    (pair / 256) as usize * LABELS.len() + (pair % 256) as usize
 }

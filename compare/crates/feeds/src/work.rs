@@ -1,6 +1,6 @@
 //! The parts of a run. Each is small, so that the threads end together.
 
-use crate::judge::{self, Difference, Judge};
+use crate::judge::{self, Judge};
 use crate::trial::Trial;
 use crate::{refused, text};
 use inputs::families::{self, PIECES, Share};
@@ -9,7 +9,7 @@ use inputs::looks::Look;
 use inputs::rng::Rng;
 use inputs::{Case, known, walk};
 use jcc_types::{Bar, KEPT, MAX_BARS, MOST_OFFSET};
-use parts::Histories;
+use program::{Difference, Histories};
 
 /// Streams of random numbers, beside those of the families.
 const LOOKS: u64 = PIECES.len() as u64;

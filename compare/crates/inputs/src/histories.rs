@@ -2,8 +2,9 @@
 //! families.
 
 use crate::Case;
-use crate::families::{Family, random_thresholds};
+use crate::families::Family;
 use crate::rng::Rng;
+use crate::thresholds;
 use jcc_types::Bar;
 
 /// The most bars of a random history.
@@ -42,7 +43,7 @@ pub fn of_length(rng: &mut Rng, family: &Family, count: usize, case: &mut Case) 
     }
     case.bars.drain(..case.bars.len() - count);
     case.thresholds = if rng.one_in(4) {
-        random_thresholds(rng)
+        thresholds::random(rng)
     } else {
         piece.thresholds
     };

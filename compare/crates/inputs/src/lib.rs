@@ -19,6 +19,7 @@ pub mod report;
 pub mod rng;
 pub mod tallies;
 pub mod tenths;
+pub mod thresholds;
 pub mod walk;
 
 use jcc_types::{Bar, Thresholds};

@@ -1,9 +1,11 @@
-//! The lines of a list of calls, as the replay program reads them:
+//! The lines of a list of calls, as the program test_replay reads them:
 //!
-//!     n            a new, empty history
-//!     b HEX64      one more bar, 32 bytes
-//!     t HEX120     the thresholds, 60 bytes
-//!     c HEX16      a call: recogniser and offset, 4 bytes each
+//! ```text
+//! n            a new, empty history
+//! b HEX64      one more bar, 32 bytes
+//! t HEX120     the thresholds, 60 bytes
+//! c HEX16      a call: recogniser and offset, 4 bytes each
+//! ```
 //!
 //! Numbers are little-endian. At the start the history is empty and the thresholds are zero bytes.
 //! For each `c` line there is one line of answers, the result in decimal.

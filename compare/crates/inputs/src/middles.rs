@@ -11,15 +11,12 @@ use crate::hostile::price_at;
 use crate::known::Known;
 use crate::planted::{at, mirror};
 use crate::rng::Rng;
-use changes::{CLOSE, Change, OPEN, last};
+use changes::{CLOSE, Change, INF, NAN, OPEN, last};
 use jcc_types::Label::{self, *};
 use jcc_types::{Bar, Pair, Thresholds};
 
 /// The recognisers that try growing windows.
 pub const RECOGNISERS: [usize; 2] = [4, 17];
-
-const NAN: f64 = f64::NAN;
-const INF: f64 = f64::INFINITY;
 
 /// The least size of a window that is tried, and the labels from it on.
 const LEAST: usize = 5;

@@ -1,7 +1,15 @@
 //! The pairs that each recogniser can give. A run must see all of them and no other.
 
 use jcc_types::Label::{self, *};
-use jcc_types::Pair;
+use jcc_types::{LABELS, Pair};
+
+/// How many pairs of labels there are.
+pub const PLACES: usize = LABELS.len() * LABELS.len();
+
+/// The place of a pair, in the export's form, among all: v1 × 38 + v2.
+pub fn place(pair: u32) -> usize {
+    (pair / 256) as usize * LABELS.len() + (pair % 256) as usize
+}
 
 /// Every v1 with every v2.
 fn product(v1: &[Label], v2: &[Label]) -> Vec<Pair> {

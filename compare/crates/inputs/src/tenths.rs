@@ -5,8 +5,8 @@
 //! numbers and from thresholds that are not divided.
 
 use crate::Case;
-use crate::families::random_tenths;
 use crate::rng::Rng;
+use crate::thresholds::{NAMED_TENTHS, random_tenths};
 use jcc_types::{Bar, Thresholds};
 
 /// The recognisers with a threshold in tenths.
@@ -18,27 +18,7 @@ const BODIES: [f64; 4] = [1.0, 0.25, 3.0, 0.7];
 /// A bar of one price, which is no doji.
 const FLAT: Bar = Bar::new(1.0, 1.0, 1.0, 1.0);
 
-/// Thresholds that are always tried, and in the list of answers: the least, those around the standard
-/// and around what it was in units, around the other whole thresholds' limit, and the greatest. With
-/// 17, ten times the quotient above the edge is rounded to 17, and 17 × 0.1 is more than 17 ÷ 10.0.
-pub const NAMED: [u32; 14] = [
-    1,
-    9,
-    10,
-    11,
-    17,
-    99,
-    100,
-    101,
-    105,
-    Thresholds::MOST_WHOLE - 1,
-    Thresholds::MOST_WHOLE,
-    Thresholds::MOST_WHOLE + 1,
-    Thresholds::MOST_TENTHS - 1,
-    Thresholds::MOST_TENTHS,
-];
-
-/// Every threshold up to this is tried too, and as many of the greatest.
+/// Beside the named thresholds every one up to this is tried, and as many of the greatest.
 const SMALL: u32 = 1000;
 
 /// How many random ones are tried, of all and of those up to some thousands.
@@ -48,7 +28,7 @@ const THOUSANDS: u32 = 20_000;
 /// The thresholds that are tried, some more than once.
 pub fn thresholds(rng: &mut Rng) -> Vec<u32> {
     const MOST: u32 = Thresholds::MOST_TENTHS;
-    let mut all = NAMED.to_vec();
+    let mut all = NAMED_TENTHS.to_vec();
     all.extend(0..=SMALL);
     all.extend(MOST - SMALL..=MOST);
     for most in [THOUSANDS, MOST] {

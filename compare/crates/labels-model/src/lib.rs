@@ -2,26 +2,20 @@
 //! prices in, labels or their counts out. The labels come from the plain port's box or from the
 //! repository's own functions.
 
+mod done;
 pub mod judge;
 pub mod line;
 pub mod price;
 pub mod printer;
 pub mod refusal;
 
+pub use done::Done;
+
 use judge::Judge;
 use line::{Lines, Next};
 use printer::Printer;
 use refusal::Refusal;
 use std::io::{self, BufRead};
-
-/// What a run has done.
-#[derive(Clone, Copy, Debug, Default, PartialEq, Eq)]
-pub struct Done {
-    /// The lines whose bars were labelled.
-    pub bars: u64,
-    /// The refusal that ended the run; without one the input ended it.
-    pub refusal: Option<Refusal>,
-}
 
 /// Labels the bars of an input, a line each, until it ends or a line is refused. An input that
 /// cannot be read further is an error, as is an output that cannot be written.

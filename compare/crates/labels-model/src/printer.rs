@@ -1,6 +1,6 @@
 //! What the two programs print.
 
-use crate::Done;
+use crate::done::Done;
 use crate::judge::Row;
 use jcc_types::LABELS;
 use port::Tally;

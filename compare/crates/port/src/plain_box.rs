@@ -1,6 +1,6 @@
 //! 01's box, plainly: every bar that is fed is labelled by all recognisers over the kept bars.
 
-use crate::label;
+use crate::label::label;
 use crate::refusals::{feed_refusal, look_refusal, tallied_refusal, within_limits};
 use crate::tally::Tally;
 use jcc_types::{BAR_PRICES, Bar, KEPT, Pair, ROW_BYTES, Thresholds};

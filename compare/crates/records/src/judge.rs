@@ -3,6 +3,7 @@
 use crate::tally::Tally;
 use inputs::{Case, report};
 use jcc_types::{BAR_PRICES, Bar, Thresholds};
+use program::Difference;
 
 /// A bar as the library has it in a record: open, close, high and low, `#[repr(C)]`.
 type Record = [f64; BAR_PRICES];
@@ -15,9 +16,6 @@ jcc_types::export! {
 /// The most bars of a report, and how many of a longer history are shown.
 const MOST_SHOWN: usize = 5000;
 const SHOWN_OF_LONG: usize = 64;
-
-/// A difference, with all that is needed to see it again.
-pub struct Difference(pub String);
 
 /// The two answers to one call.
 struct Answers {

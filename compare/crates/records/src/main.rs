@@ -6,34 +6,19 @@ mod options;
 mod tally;
 mod work;
 
-use judge::{Difference, Judge};
+use judge::Judge;
 use options::Options;
 use std::process::ExitCode;
-use std::time::Instant;
-use tally::Tally;
 use work::Work;
 
 fn main() -> ExitCode {
-    match Options::from_arguments().and_then(|options| compare(&options)) {
-        Ok(()) => ExitCode::SUCCESS,
-        Err(message) => {
-            eprintln!("records: {message}");
-            ExitCode::FAILURE
-        }
-    }
+    program::main("records", || compare(&Options::from_arguments()?))
 }
 
 fn compare(options: &Options) -> Result<(), String> {
     println!("seed {}, {} calls", options.seed, options.calls);
-    let start = Instant::now();
-    let (judges, difference) = parts::run(&work::all(options), Judge::new, Work::run);
-    if let Some(Difference(text)) = difference {
-        return Err(format!("DIFFERENCE\n{text}"));
-    }
-    let mut tally = Tally::default();
-    judges.iter().for_each(|judge| tally.add(&judge.tally));
-    tally.print();
-    println!("{:.0} seconds", start.elapsed().as_secs_f64());
+    let parts = work::all(options);
+    let tally = program::compare(&parts, Judge::new, Work::run, |judge| judge.tally)?;
     println!("records: {} calls, 0 differences", tally.calls);
     Ok(())
 }

@@ -12,7 +12,7 @@ impl Options {
     pub fn from_arguments() -> Result<Options, String> {
         let arguments = std::env::args().skip(1);
         let known = [("--seed", 1), ("--calls", 2_000_000)];
-        let [seed, calls] = parts::numbers(arguments, known, USAGE)?;
+        let [seed, calls] = program::numbers(arguments, known, USAGE)?;
         Ok(Options { seed, calls })
     }
 }

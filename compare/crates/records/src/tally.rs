@@ -22,8 +22,10 @@ impl Tally {
             self.pairs.insert((recogniser, answer));
         }
     }
+}
 
-    pub fn add(&mut self, more: &Tally) {
+impl program::Tally for Tally {
+    fn add(&mut self, more: &Tally) {
         self.calls += more.calls;
         for (refusal, count) in &more.refusals {
             *self.refusals.entry(*refusal).or_default() += count;
@@ -31,7 +33,7 @@ impl Tally {
         self.pairs.extend(&more.pairs);
     }
 
-    pub fn print(&self) {
+    fn print(&self) {
         for (refusal, count) in &self.refusals {
             println!("refusal {refusal}: {count}");
         }

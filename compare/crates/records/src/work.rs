@@ -1,11 +1,12 @@
 //! The parts of a run. Each is small, so that the threads end together.
 
-use crate::judge::{Difference, Judge};
+use crate::judge::Judge;
 use crate::options::Options;
-use inputs::families::{FAMILIES, Family, random_thresholds};
+use inputs::families::{FAMILIES, Family};
 use inputs::rng::Rng;
-use inputs::{Case, hostile, known, refusals, walk};
+use inputs::{Case, hostile, known, refusals, thresholds, walk};
 use jcc_types::{Bar, MAX_BARS, RECOGNISERS, Thresholds};
+use program::Difference;
 
 /// The calls in a part of a random family.
 const PART: u64 = 20_000;
@@ -120,7 +121,7 @@ fn most_bars(judge: &mut Judge, rng: &mut Rng) -> Result<(), Difference> {
     };
     for count in [MAX_BARS + 1, MAX_BARS, MAX_BARS - 1] {
         case.bars.truncate(count);
-        for thresholds in [Thresholds::STANDARD, random_thresholds(rng), refused] {
+        for thresholds in [Thresholds::STANDARD, thresholds::random(rng), refused] {
             case.thresholds = thresholds;
             case.offsets.clear();
             push_offsets(&mut case);

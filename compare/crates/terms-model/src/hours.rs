@@ -1,6 +1,7 @@
 //! The opening hours, and where a stamp's term ends.
 
-use crate::DAY;
+/// The minutes of a day.
+pub const DAY: u32 = 1440;
 
 /// The most windows of a day.
 const MOST: usize = 4;

@@ -1,10 +1,12 @@
 //! The layer between minute bars and a box.
 
-use crate::MINUTES;
 use crate::hours::Hours;
 use crate::term_bar::TermBar;
 use jcc_types::{BAR_PRICES, Bar, ROW_BYTES, Thresholds};
 use port::{PlainBox, feed_refusal};
+
+/// The term lengths that a layer takes.
+pub const MINUTES: [u32; 3] = [5, 15, 60];
 
 pub struct Layer {
     thresholds: Thresholds,

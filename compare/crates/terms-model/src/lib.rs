@@ -7,12 +7,6 @@ mod layer;
 mod list;
 mod term_bar;
 
-pub use hours::{Hours, Window};
-pub use layer::Layer;
+pub use hours::{DAY, Hours, Window};
+pub use layer::{Layer, MINUTES};
 pub use list::{List, REFUSED};
-
-/// The minutes of a day.
-pub const DAY: u32 = 1440;
-
-/// The term lengths that a layer takes.
-pub const MINUTES: [u32; 3] = [5, 15, 60];

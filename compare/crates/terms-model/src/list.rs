@@ -1,6 +1,6 @@
 //! A list of calls to a fresh layer, as the export `jcc_terms` makes them.
 
-use crate::Layer;
+use crate::layer::Layer;
 use jcc_types::{BAR_PRICES, ROW_BYTES, Thresholds};
 
 /// An answer above this is a refusal: the difference is the refusal's number.

@@ -1,8 +1,9 @@
 //! Small lists whose answers were told by hand.
 
-use crate::judge::{Difference, Judge};
+use crate::judge::Judge;
 use crate::trial::Trial;
 use jcc_types::{BAR_PRICES, ROW_BYTES, Thresholds};
+use program::Difference;
 
 /// A refused call's answer is this and the refusal's number.
 const R: u32 = 16_777_216;

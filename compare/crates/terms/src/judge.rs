@@ -1,5 +1,6 @@
 //! Whether the export and the plain layer give what a list of calls must give.
 
+use crate::calls;
 use crate::noted;
 use crate::recut;
 use crate::seen::{Kind, Seen};
@@ -8,10 +9,8 @@ use crate::trial::Trial;
 use inputs::rng::Rng;
 use jcc_types::{BAR_PRICES, NAMES, ROW_BYTES};
 use lent::Lent;
+use program::Difference;
 use std::time::{Duration, Instant};
-
-/// A difference, with all that is needed to see it again.
-pub struct Difference(pub String);
 
 /// A difference in a trial with more bars than this is not made simpler.
 const MOST_SIMPLIFIED: usize = 10_000;
@@ -32,7 +31,9 @@ pub struct Agreed {
 
 impl Judge {
     pub fn new() -> Judge {
-        Judge { seen: Seen::new() }
+        Judge {
+            seen: Seen::default(),
+        }
     }
 
     /// A list of calls, then what it accepted in other cuts.
@@ -82,7 +83,7 @@ impl Judge {
     }
 
     fn check(&mut self, trial: &Trial) -> Result<Agreed, String> {
-        let told = Told::of(trial, &mut self.seen);
+        let told = calls::tell(trial, &mut self.seen);
         noted::terms(&told, &mut self.seen);
         let rows = one_feed(trial, &told)?;
         let agreed = Agreed { told, rows };

@@ -1,10 +1,11 @@
 //! Lists with as many term bars as there may be. A term bar has one minute bar each, mostly.
 
-use crate::judge::{Difference, Judge};
+use crate::judge::Judge;
 use crate::trial::Trial;
 use inputs::rng::Rng;
 use inputs::walk;
 use jcc_types::{BAR_PRICES, Bar, MAX_BARS, ROW_BYTES, Thresholds};
+use program::Difference;
 
 /// The streams of random numbers begin here.
 const STREAM: u64 = 1000;

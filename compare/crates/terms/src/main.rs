@@ -2,6 +2,7 @@
 //! calls, and the rows with one feed of the ended term bars, by `jcc_feed` and by the plain box. Stops
 //! at the first difference.
 
+mod calls;
 mod examples;
 mod hours;
 mod judge;
@@ -16,35 +17,20 @@ mod told;
 mod trial;
 mod work;
 
-use judge::{Difference, Judge};
-use parts::Histories;
-use seen::Seen;
+use judge::Judge;
+use program::Histories;
 use std::process::ExitCode;
-use std::time::Instant;
 use work::Work;
 
 fn main() -> ExitCode {
-    match Histories::from_arguments("terms").and_then(|options| compare(&options)) {
-        Ok(()) => ExitCode::SUCCESS,
-        Err(message) => {
-            eprintln!("terms: {message}");
-            ExitCode::FAILURE
-        }
-    }
+    program::main("terms", || compare(&Histories::from_arguments("terms")?))
 }
 
 fn compare(options: &Histories) -> Result<(), String> {
     println!("seed {}, {} histories", options.seed, options.histories);
-    let start = Instant::now();
-    let (judges, difference) = parts::run(&work::all(options), Judge::new, Work::run);
-    if let Some(Difference(text)) = difference {
-        return Err(format!("DIFFERENCE\n{text}"));
-    }
-    let mut seen = Seen::new();
-    judges.iter().for_each(|judge| seen.add(&judge.seen));
-    seen.print();
+    let parts = work::all(options);
+    let seen = program::compare(&parts, Judge::new, Work::run, |judge| judge.seen)?;
     seen.check()?;
-    println!("{:.0} seconds", start.elapsed().as_secs_f64());
     println!("{}, 0 differences", seen.summary());
     Ok(())
 }

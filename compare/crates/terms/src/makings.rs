@@ -1,10 +1,11 @@
 //! Makings of layers, refused or not, each with some calls.
 
 use crate::hours;
-use crate::judge::{Difference, Judge};
+use crate::judge::Judge;
 use crate::trial::Trial;
 use inputs::refusals;
 use jcc_types::{BAR_PRICES, ROW_BYTES, Thresholds};
+use program::Difference;
 
 /// The lengths of terms: those that there are, their neighbours, others, and some that are 5 in 8 or 16
 /// bits.

@@ -1,7 +1,7 @@
 //! What kinds of calls, stamps and terms a list has.
 
 use crate::seen::{Kind, Seen};
-use crate::told::{DAY, Run, Taken, Told};
+use crate::told::{DAY, Taken, Told};
 use jcc_types::BAR_PRICES;
 
 /// A close that gets this refusal, or none.
@@ -16,16 +16,16 @@ pub fn close(told: &Told, refusal: Option<u32>, seen: &mut Seen) {
 }
 
 /// A run, whether it is refused or not.
-pub fn run(run: &Run, seen: &mut Seen) {
-    let bars = run.prices.len() / BAR_PRICES;
-    let is_broken = !run.prices.len().is_multiple_of(BAR_PRICES);
+pub fn run(stamps: &[u32], prices: &[f64], seen: &mut Seen) {
+    let bars = prices.len() / BAR_PRICES;
+    let is_broken = !prices.len().is_multiple_of(BAR_PRICES);
     seen.count(Kind::Run);
     seen.add_bars(bars);
     seen.count_if(is_broken, Kind::BrokenBar);
-    let is_alone = bars == run.stamps.len();
+    let is_alone = bars == stamps.len();
     seen.count_if(is_broken && is_alone, Kind::BrokenAlone);
-    seen.count_if(!is_broken && bars < run.stamps.len(), Kind::MoreStamps);
-    seen.count_if(!is_broken && bars > run.stamps.len(), Kind::FewerStamps);
+    seen.count_if(!is_broken && bars < stamps.len(), Kind::MoreStamps);
+    seen.count_if(!is_broken && bars > stamps.len(), Kind::FewerStamps);
 }
 
 /// A run that only its stamps can be refused for, with the refusals of each by its place.

@@ -2,6 +2,7 @@
 
 use crate::told::Answer;
 use crate::trial::Trial;
+use program::add_counts;
 
 /// Names the kinds and their texts in one place.
 macro_rules! kinds {
@@ -92,8 +93,8 @@ pub struct Seen {
     minutes: [u64; 3],
 }
 
-impl Seen {
-    pub fn new() -> Seen {
+impl Default for Seen {
+    fn default() -> Seen {
         Seen {
             lists: 0,
             bars: 0,
@@ -106,7 +107,9 @@ impl Seen {
             minutes: [0; 3],
         }
     }
+}
 
+impl Seen {
     pub fn count(&mut self, kind: Kind) {
         self.kinds[kind as usize] += 1;
     }
@@ -159,37 +162,6 @@ impl Seen {
         self.count_if(windows == [[0, 1440]], Kind::WholeDay);
     }
 
-    pub fn add(&mut self, more: &Seen) {
-        self.lists += more.lists;
-        self.bars += more.bars;
-        self.rows += more.rows;
-        add(&mut self.kinds, &more.kinds);
-        add(&mut self.made, &more.made);
-        add(&mut self.refused, &more.refused);
-        add(self.both.as_flattened_mut(), more.both.as_flattened());
-        add(&mut self.windows, &more.windows);
-        add(&mut self.minutes, &more.minutes);
-    }
-
-    pub fn print(&self) {
-        println!();
-        for (text, count) in TEXTS.iter().zip(&self.kinds) {
-            println!("{text:52}{count:>12}");
-        }
-        println!("layers with 1 to 4 windows: {:?}", self.windows);
-        println!("layers with terms of 5, 15 and 60: {:?}", self.minutes);
-        for refusal in OF_MAKINGS {
-            println!("makings refused by {refusal}: {}", self.made[refusal]);
-        }
-        for refusal in OF_CALLS {
-            println!("calls refused by {refusal}: {}", self.refused[refusal]);
-        }
-        for [first, later] in BOTH {
-            let count = self.both[first][later];
-            println!("refused by {first} where {later} holds too: {count}");
-        }
-    }
-
     /// An error if something never came up.
     pub fn check(&self) -> Result<(), String> {
         let kinds = TEXTS.iter().map(|text| text.to_string());
@@ -217,8 +189,35 @@ impl Seen {
     }
 }
 
-fn add(sums: &mut [u64], more: &[u64]) {
-    for (sum, n) in sums.iter_mut().zip(more) {
-        *sum += n;
+impl program::Tally for Seen {
+    fn add(&mut self, more: &Seen) {
+        self.lists += more.lists;
+        self.bars += more.bars;
+        self.rows += more.rows;
+        add_counts(&mut self.kinds, &more.kinds);
+        add_counts(&mut self.made, &more.made);
+        add_counts(&mut self.refused, &more.refused);
+        add_counts(self.both.as_flattened_mut(), more.both.as_flattened());
+        add_counts(&mut self.windows, &more.windows);
+        add_counts(&mut self.minutes, &more.minutes);
+    }
+
+    fn print(&self) {
+        println!();
+        for (text, count) in TEXTS.iter().zip(&self.kinds) {
+            println!("{text:52}{count:>12}");
+        }
+        println!("layers with 1 to 4 windows: {:?}", self.windows);
+        println!("layers with terms of 5, 15 and 60: {:?}", self.minutes);
+        for refusal in OF_MAKINGS {
+            println!("makings refused by {refusal}: {}", self.made[refusal]);
+        }
+        for refusal in OF_CALLS {
+            println!("calls refused by {refusal}: {}", self.refused[refusal]);
+        }
+        for [first, later] in BOTH {
+            let count = self.both[first][later];
+            println!("refused by {first} where {later} holds too: {count}");
+        }
     }
 }

@@ -1,6 +1,6 @@
 //! The parts of a run. Each is small, so that the threads end together.
 
-use crate::judge::{Difference, Judge};
+use crate::judge::Judge;
 use crate::stamps::Clock;
 use crate::trial::Trial;
 use crate::{examples, limit, lists, makings};
@@ -8,7 +8,7 @@ use inputs::families::{self, PIECES, Share};
 use inputs::rng::Rng;
 use inputs::walk;
 use jcc_types::{Bar, MAX_BARS, Thresholds};
-use parts::Histories;
+use program::{Difference, Histories};
 use terms_model::MINUTES;
 
 /// A stream of random numbers, beside those of the families.

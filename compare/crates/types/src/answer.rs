@@ -1,7 +1,10 @@
-//! The text of an answer.
+//! The form of an answer, and its text.
 
-use crate::{LABELS, REFUSED};
+use crate::label::LABELS;
 use core::fmt;
+
+/// An answer above this is a refusal: the difference is the refusal's number.
+pub const REFUSED: u32 = 65_536;
 
 /// An answer in the export's form, shown as a pair of labels or as a refusal.
 pub struct Answer(pub u32);

@@ -6,7 +6,7 @@ mod answer;
 mod export;
 mod label;
 
-pub use answer::Answer;
+pub use answer::{Answer, REFUSED};
 pub use label::{LABELS, Label, Pair, code_of};
 
 /// How many recognisers there are; a recogniser's number is below this.
@@ -32,9 +32,6 @@ pub const KEPT: usize = 64;
 
 /// The greatest offset of a look: 22 of the kept bars are up to the judged one.
 pub const MOST_OFFSET: u32 = 43;
-
-/// An answer above this is a refusal: the difference is the refusal's number.
-pub const REFUSED: u32 = 65_536;
 
 /// The recognisers' names, by number.
 pub const NAMES: [&str; RECOGNISERS] = [

@@ -1,4 +1,4 @@
-//! Writes a list of the repository's answers, for a program that replays it without the repository:
+//! Writes a list of the repository's answers, for the program test_replay, which needs no repository:
 //! `stdin` with the calls and `stdout` with one answer a line, in the folder that is given.
 //!
 //! Refusals, which the repository doesn't have, and the answers where it has no say, in 01's two
@@ -11,6 +11,7 @@ use answers::Answers;
 use inputs::boundaries::{self, Boundary};
 use inputs::families::{FAMILIES, LONG};
 use inputs::rng::Rng;
+use inputs::thresholds::NAMED_TENTHS;
 use inputs::{Case, known, middles, refusals, tenths};
 use jcc_types::{RECOGNISERS, Thresholds};
 use std::collections::BTreeSet;
@@ -48,6 +49,10 @@ fn main() -> ExitCode {
         eprintln!("vectors FOLDER");
         return ExitCode::FAILURE;
     };
+    program::main("vectors", || write(&folder))
+}
+
+fn write(folder: &str) -> Result<(), String> {
     let mut list = Answers::new();
     known::all().iter().for_each(|k| list.add_known(k));
     add_lengths(&mut list);
@@ -57,16 +62,10 @@ fn main() -> ExitCode {
     add_middles(&mut list);
     add_tenths(&mut list);
     add_refusals(&mut list);
-    match list.write(Path::new(&folder)) {
-        Ok(()) => {
-            println!("{}", list.summary());
-            ExitCode::SUCCESS
-        }
-        Err(e) => {
-            eprintln!("vectors: {folder}: {e}");
-            ExitCode::FAILURE
-        }
-    }
+    list.write(Path::new(folder))
+        .map_err(|e| format!("{folder}: {e}"))?;
+    println!("{}", list.summary());
+    Ok(())
 }
 
 /// Fills a case from a family; false if it is too long for the list.
@@ -200,7 +199,7 @@ fn add_middles(list: &mut Answers) {
 /// Both sides of a doji's edge with thresholds in tenths, the last of which is refused.
 fn add_tenths(list: &mut Answers) {
     let refused = Thresholds::MOST_TENTHS + 1;
-    for th in tenths::NAMED.into_iter().chain([refused]) {
+    for th in NAMED_TENTHS.into_iter().chain([refused]) {
         for case in tenths::sides(th) {
             list.add(&case, &tenths::RECOGNISERS);
         }

@@ -1,7 +1,8 @@
 //! The changes of a window of some size. Places are counted from its first bar on, four to a
 //! bar.
 
-use super::{INF, NAN};
+pub const NAN: f64 = f64::NAN;
+pub const INF: f64 = f64::INFINITY;
 
 /// Prices to put in, by their places.
 pub type Change = Vec<(usize, f64)>;

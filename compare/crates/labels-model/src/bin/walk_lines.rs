@@ -13,13 +13,7 @@ fn main() -> ExitCode {
         eprintln!("walk_lines LINES SEED");
         return ExitCode::from(2);
     };
-    match print(count, seed) {
-        Ok(()) => ExitCode::SUCCESS,
-        Err(error) => {
-            eprintln!("walk_lines: {error}");
-            ExitCode::FAILURE
-        }
-    }
+    program::main("walk_lines", || print(count, seed))
 }
 
 fn print(count: u64, seed: u64) -> io::Result<()> {

@@ -144,7 +144,7 @@ fn long_line(rng: &mut Rng) -> Vec<u8> {
         _ => rng.between(69, 83),
     };
     if rng.one_in(2) {
-        four_fields(length, rng.below(4), rng.pick(&[b'0', b' ', b'O']))
+        four_fields(length, rng.below(4), rng.pick(b"0 O"))
     } else {
         line_of(length, rng.below(FILLS))
     }

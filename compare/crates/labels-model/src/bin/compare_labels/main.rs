@@ -15,34 +15,23 @@ mod work;
 
 use check::Check;
 use options::Options;
+use program::Tally;
 use std::process::ExitCode;
-use std::time::Instant;
-use tally::Tally;
 
 fn main() -> ExitCode {
-    match Options::from_arguments().and_then(|options| compare(&options)) {
-        Ok(()) => ExitCode::SUCCESS,
-        Err(message) => {
-            eprintln!("labels: {message}");
-            ExitCode::FAILURE
-        }
-    }
+    program::main("labels", || compare(&Options::from_arguments()?))
 }
 
 fn compare(options: &Options) -> Result<(), String> {
     println!("seed {}, {} random inputs", options.seed, options.inputs);
-    let start = Instant::now();
-    let (checks, difference) = parts::run(
+    let (tally, seconds) = program::run(
         &work::all(options),
         || Check::new(&options.programs),
         |part, check| part.run(options.seed, check),
-    );
-    if let Some(difference) = difference {
-        return Err(difference.report(&options.folder));
-    }
-    let mut tally = Tally::default();
-    checks.iter().for_each(|check| tally.add(&check.tally));
-    println!("{:.0} seconds", start.elapsed().as_secs_f64());
+        |check| check.tally,
+    )
+    .map_err(|difference| difference.report(&options.folder))?;
+    println!("{seconds:.0} seconds");
     tally.print();
     match tally.unseen().as_slice() {
         [] => Ok(()),

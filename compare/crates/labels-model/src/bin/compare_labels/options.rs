@@ -21,7 +21,7 @@ impl Options {
         let programs = [path()?, path()?];
         let folder = path()?;
         let known = [("--seed", 1), ("--inputs", 4000)];
-        let [seed, inputs] = parts::numbers(arguments, known, USAGE)?;
+        let [seed, inputs] = program::numbers(arguments, known, USAGE)?;
         Ok(Options {
             programs,
             folder,

@@ -6,6 +6,7 @@ use inputs::pairs::possible;
 use jcc_types::{LABELS, RECOGNISERS};
 use labels_model::line::MOST;
 use labels_model::refusal::Refusal;
+use program::add_counts;
 use std::collections::{BTreeMap, BTreeSet};
 
 /// Why a line was refused, by what it is.
@@ -82,7 +83,21 @@ impl Tally {
         self.open[usize::from(!is_stopped)] += 1;
     }
 
-    pub fn add(&mut self, more: &Tally) {
+    /// The kinds of refused lines that no input had, and the counts that no tally had.
+    pub fn unseen(&self) -> Vec<String> {
+        let kinds = KINDS.iter().zip(self.refusals).filter(|(_, n)| *n == 0);
+        let kinds = kinds.map(|(kind, _)| format!("refusal {kind}"));
+        let cells = (0..RECOGNISERS).flat_map(|k| possible(k).into_iter().map(move |p| (k, p.0)));
+        let cells: BTreeSet<_> = cells.map(|(k, v1)| (k, v1 as usize)).collect();
+        let counts = cells.difference(&self.cells);
+        kinds
+            .chain(counts.map(|(k, code)| format!("count {k},{}", LABELS[*code])))
+            .collect()
+    }
+}
+
+impl program::Tally for Tally {
+    fn add(&mut self, more: &Tally) {
         for (sum, n) in [
             (&mut self.inputs, more.inputs),
             (&mut self.runs, more.runs),
@@ -96,17 +111,15 @@ impl Tally {
         ] {
             *sum += n;
         }
-        let sums = self.refusals.iter_mut().chain(&mut self.open);
-        for (sum, n) in sums.zip(more.refusals.into_iter().chain(more.open)) {
-            *sum += n;
-        }
+        add_counts(&mut self.refusals, &more.refusals);
+        add_counts(&mut self.open, &more.open);
         self.cells.extend(&more.cells);
         for (status, n) in &more.statuses {
             *self.statuses.entry(status.clone()).or_default() += n;
         }
     }
 
-    pub fn print(&self) {
+    fn print(&self) {
         println!(
             "runs={} judged by the repository={} pairs in a corner={} endings={}",
             self.runs, self.judged, self.corners, self.endings
@@ -124,18 +137,6 @@ impl Tally {
             "inputs={} lines={} bytes={} rows={} counts={} differences=0",
             self.inputs, self.lines, self.bytes, self.rows, self.counts
         );
-    }
-
-    /// The kinds of refused lines that no input had, and the counts that no tally had.
-    pub fn unseen(&self) -> Vec<String> {
-        let kinds = KINDS.iter().zip(self.refusals).filter(|(_, n)| *n == 0);
-        let kinds = kinds.map(|(kind, _)| format!("refusal {kind}"));
-        let cells = (0..RECOGNISERS).flat_map(|k| possible(k).into_iter().map(move |p| (k, p.0)));
-        let cells: BTreeSet<_> = cells.map(|(k, v1)| (k, v1 as usize)).collect();
-        let counts = cells.difference(&self.cells);
-        kinds
-            .chain(counts.map(|(k, code)| format!("count {k},{}", LABELS[*code])))
-            .collect()
     }
 }
 

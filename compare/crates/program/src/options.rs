@@ -9,13 +9,15 @@ pub fn numbers<const N: usize>(
 ) -> Result<[u64; N], String> {
     while let Some(name) = arguments.next() {
         let option = options.iter_mut().find(|(known, _)| *known == name);
-        let (_, number) = option.ok_or(usage)?;
-        let value = arguments.next().ok_or(usage)?;
-        *number = value
-            .parse()
-            .map_err(|_| format!("{value} is no number; {usage}"))?;
+        let (_, value) = option.ok_or(usage)?;
+        *value = number(&arguments.next().ok_or(usage)?, usage)?;
     }
-    Ok(options.map(|(_, number)| number))
+    Ok(options.map(|(_, value)| value))
+}
+
+pub fn number(text: &str, usage: &str) -> Result<u64, String> {
+    text.parse()
+        .map_err(|_| format!("{text} is no number; {usage}"))
 }
 
 /// The options of a comparison over random histories.
