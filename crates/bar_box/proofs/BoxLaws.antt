@@ -6,8 +6,8 @@ use mathlib.Core.List.{List, [], _++_, append-assoc, append-nil, map-append}
 use native.Mathlib.Omega.{arith}
 use native.Mathlib.Decide.{decLe}
 use native.Mathlib.Nat.{add-zero, add-assoc}
-use lib.ListN.{length, take, drop, replicate, length-append, length-take, length-drop, take-append-drop, drop-of-length-le}
-use lib.Seq.{take-all, take-append-seam, drop-append-add, drop-drop}
+use lib.ListN.{length, drop, replicate, length-append, length-take, length-drop, take-append-drop, drop-of-length-le}
+use lib.Seq.{take-append-seam, drop-append-add, drop-drop}
 use Rattle.measures.specs.Bar.{Bar}
 use Rattle.measures.specs.Window.{newest}
 use Rattle.recognisers.specs.Number.{places}

@@ -1,7 +1,7 @@
 // A feed.
 ghost use mathlib.Core.Path.{_≡_};
 ghost use mathlib.Core.Bool.{cond};
-ghost use Prim.Native.Nat.{_+_, _*_, _/_, _%_, _≤_};
+ghost use Prim.Native.Nat.{_+_, _*_, _≤_};
 ghost use lib.Dec.{eqb};
 ghost use lib.ListN.{length, take};
 ghost use Rattle.measures.specs.Bar.{barsOf, overlay};
@@ -45,7 +45,8 @@ fn by_one(gone: usize, stay: usize) -> usize
 // the places, since a box that is handed on is copied.
 fn take_in(b: BarBox, prices: &[f64], sheet: &mut [u8]) -> BarBox
     requires { ⌜ (b .count + length (barsOf (now prices)) ≤ 4294967295) × (rowBytes * length (barsOf (now prices)) ≤ length (now sheet)) ⌝ }
-    ensures { λ r. ⌜ (r ≡ takenIn b (barsOf (now (prices .entry)))) × (now (sheet .exit) ≡ overlay (now (sheet .entry)) 0 (rowsOf (b .thresholds) (b .count) (kept b) (barsOf (now (prices .entry))))) ⌝ }
+    ensures box { λ r. ⌜ r ≡ takenIn b (barsOf (now (prices .entry))) ⌝ }
+    ensures sheet { λ _. ⌜ now (sheet .exit) ≡ overlay (now (sheet .entry)) 0 (rowsOf (b .thresholds) (b .count) (kept b) (barsOf (now (prices .entry)))) ⌝ }
 {
     let t = b.thresholds;
     let count = b.count;

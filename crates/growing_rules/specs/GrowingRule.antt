@@ -4,12 +4,12 @@ use mathlib.Core.Path.{_≡_}
 use mathlib.Core.Bool.{Bool, true, false, cond, not, _&&_}
 use mathlib.Core.List.{List, [], _∷_, map, reverse, Perm}
 use lib.Dec.{eqb}
-use lib.ListN.{length, getD}
+use lib.ListN.{getD}
 use lib.Ieee.{Float, nan, lt, le, isNan}
 use Rattle.measures.specs.Bar.{Bar, bodyOf}
 use Rattle.measures.specs.declared.folds.Column.the-variants.{Close, High, Low}
 use Rattle.measures.specs.Price.{maxOf, minOf}
-use Rattle.measures.specs.Window.{windowOf, backOf}
+use Rattle.measures.specs.Window.{windowOf}
 use Rattle.measures.specs.Fold.{columnOf, highestOf, lowestOf, varianceOf, everyOf}
 use Rattle.rule_types.specs.declared.label.{Label.Label, Pair.Pair}
 use Rattle.rule_types.specs.declared.label.Label.the-variants.{Other, RisingThreeMethods, FallingThreeMethods, Bars5, Bars6, Bars7, Bars8, Bars9, Bottom, Top}

@@ -2,20 +2,15 @@
 -- those of 4 and 17 are in GrowingRule.
 use Prim.Native.Nat.{ℕ, _-_, min}
 use mathlib.Core.Bool.{Bool, cond, not, _&&_, _||_}
-use lib.Dec.{ltb}
-use lib.ListN.{length, getD}
+use lib.ListN.{getD}
 use mathlib.Core.List.{List}
 use lib.Ieee.{Float, nan, lt, isNan}
 use Rattle.measures.specs.Bar.{Bar}
-use Rattle.measures.specs.declared.folds.Column.the-variants.{High, Low}
-use Rattle.measures.specs.Price.{maxOf, minOf}
-use Rattle.measures.specs.Window.{windowOf, backOf}
-use Rattle.measures.specs.Fold.{columnOf, everyOf, extremesOf}
 use Rattle.rule_types.specs.declared.label.{Label.Label, Pair.Pair}
 use Rattle.rule_types.specs.Label.{pairA}
 use Rattle.growing_rules.specs.declared.{Ends.Ends, Growing.Growing, Leaders.Leaders, Shape.Shape, Shape.the-variants.ThreeMethods, Shape.the-variants.Tower}
 use Rattle.middles.specs.declared.Middle.{Middle}
-use Rattle.growing_rules.specs.GrowingRule.{firstMatch, innerOf, threeMethods, bodiesDown, bodiesKnown, tower}
+use Rattle.growing_rules.specs.GrowingRule.{firstMatch, threeMethods, bodiesDown, bodiesKnown, tower}
 
 -- ---- what a window needs of its ends and of these extremes: all that 4 asks but for the closes, all that 17 asks but for the bodies and the
 -- variance

@@ -11,7 +11,8 @@ use Rattle.measures.specs.Bar.{barsOf}
 use Rattle.measures.specs.Window.{upTo, windowOf, pricesFrom}
 use Rattle.measures.proofs.RunLaws.{length-bars, bars-part}
 use Rattle.measures.proofs.WindowLaws.{upTo-le, window-part}
-use Rattle.recognisers.specs.Export.{barBytes, littleEndian, wordAt, priceAt, pricesAt, decodedPrices}
+use Rattle.recognisers.specs.Export.{barBytes, littleEndian, priceAt, pricesAt, decodedPrices}
+use Rattle.recognisers.specs.ExportSteps.{wordAt}
 
 -- eight bytes, one by one
 eight : (s : List ℕ) → littleEndian (take 8 s) ≡ wordAt s 0

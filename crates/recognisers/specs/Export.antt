@@ -2,7 +2,7 @@
 use Prim.Native.Nat.{ℕ, zero, suc, _+_, _*_, _/_, _%_}
 use mathlib.Core.List.{List, [], _∷_}
 use lib.Dec.{eqb}
-use lib.ListN.{length, getD, take, drop}
+use lib.ListN.{length, take, drop}
 use lib.Ieee.{Float, binary64, ofBits}
 use Rattle.measures.specs.Bar.{barsOf}
 use Rattle.thresholds.specs.declared.Thresholds.{Thresholds}
@@ -33,13 +33,3 @@ decodedPrices bytes = pricesAt bytes 0 (length bytes / 8)
 -- a plain call over the bars of the bytes; the result is v1 × 256 + v2, or 65,536 plus the refusal
 unfoldable pub exportOf : ℕ → ℕ → Thresholds → List ℕ → ℕ
 exportOf k di t bytes = resultOf (plainAnswer k di t (eqb (length bytes % barBytes) 0) (barsOf (decodedPrices bytes)))
-
--- ---- the sum of those eight bytes written out, as the code has it
-abbrev pub wordAt : List ℕ → ℕ → ℕ
-wordAt s at =
-    getD s at 0
-    + 256
-    * (getD s (at + 1) 0
-    + 256
-    * (getD s (at + 2) 0
-    + 256 * (getD s (at + 3) 0 + 256 * (getD s (at + 4) 0 + 256 * (getD s (at + 5) 0 + 256 * (getD s (at + 6) 0 + 256 * getD s (at + 7) 0))))))

@@ -7,4 +7,5 @@ pub mod Table
 pub mod Refusal
 pub mod Call
 pub mod Export
+pub mod ExportSteps
 pub mod SameDojis

@@ -10,7 +10,8 @@ ghost use Rattle.measures.specs.Window.{windowOf};
 ghost use Rattle.rule_types.specs.Number.{gated, quarterBars};
 ghost use Rattle.thresholds.specs.Threshold.{thresholdsOf};
 ghost use Rattle.rule_table.specs.Table.{pairAt};
-ghost use Rattle.recognisers.specs.Export.{wordAt, priceAt, pricesAt, decodedPrices, exportOf};
+ghost use Rattle.recognisers.specs.Export.{priceAt, pricesAt, decodedPrices, exportOf};
+ghost use Rattle.recognisers.specs.ExportSteps.{wordAt};
 use answers::Answer;
 use answers::Verdict;
 use answers::answer_number;
@@ -28,7 +29,8 @@ pub const BAR_BYTES: usize = 32;
 const GATE_PRICES: usize = 4 * counts::QUARTER_BARS;
 
 fn wide(b: u8) -> u64
-    ensures { λ r. ⌜ (r ≡ b) × (r < 256) ⌝ }
+    ensures same { λ r. ⌜ r ≡ b ⌝ }
+    ensures bound { λ r. ⌜ r < 256 ⌝ }
 {
     b as u64
 }
@@ -86,7 +88,8 @@ fn prices_at(s: &[u8], at: usize, n: usize, out: &mut [f64])
 // many prices there are.
 fn decode(s: &[u8], di: usize, n: usize, out: &mut [f64]) -> usize
     requires { ⌜ 4 * n ≤ length (now out) ⌝ }
-    ensures { λ r. ⌜ (r ≤ 4 * n) × (barsOf (take r (now (out .exit))) ≡ windowOf (barsOf (decodedPrices (now (s .entry)))) di n) ⌝ }
+    ensures bound { λ r. ⌜ r ≤ 4 * n ⌝ }
+    ensures bars { λ r. ⌜ barsOf (take r (now (out .exit))) ≡ windowOf (barsOf (decodedPrices (now (s .entry)))) di n ⌝ }
 {
     let p = measures::up_to(s.len() / BAR_BYTES, di);
     let m = measures::least(n, p);
@@ -97,7 +100,8 @@ fn decode(s: &[u8], di: usize, n: usize, out: &mut [f64]) -> usize
 
 // The bars of the gate's window: none for a recogniser without a gate.
 pub fn gate_bars(k: u32) -> usize
-    ensures { λ r. ⌜ (r ≡ cond (eqb k gated) quarterBars 0) × (r ≤ quarterBars) ⌝ }
+    ensures bars { λ r. ⌜ r ≡ cond (eqb k gated) quarterBars 0 ⌝ }
+    ensures bound { λ r. ⌜ r ≤ quarterBars ⌝ }
 {
     if k == counts::GATED {
         counts::QUARTER_BARS

@@ -1,5 +1,5 @@
 -- Windows held by value: one bar more, the window of a history, and the answer out of two windows. Assumes nothing.
-use Prim.Native.Nat.{ℕ, suc, _+_, _-_, _*_, _≤_, _<_, min}
+use Prim.Native.Nat.{ℕ, _+_, _-_, _*_, _≤_, _<_, min}
 use mathlib.Core.Path.{_≡_, refl, ap, _∙_}
 use mathlib.Core.Bool.{true, cond}
 use mathlib.Core.List.{List, [], _∷_, _++_}
@@ -24,7 +24,7 @@ use Rattle.recognisers.specs.Call.{plainAnswer}
 use Rattle.recognisers.proofs.TableLaws.{gate-enough}
 use Rattle.records.specs.declared.Window.{Window}
 use Rattle.records.specs.declared.Span.{Span}
-use Rattle.records.specs.Held.{windowBars}
+use Rattle.records.specs.HeldSteps.{windowBars}
 
 -- ---- one bar more
 

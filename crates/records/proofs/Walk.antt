@@ -16,7 +16,6 @@ use denote.Laws.{Is, Makes}
 use denote.Plain.{uint-makes}
 use denote.Floats.{float-makes}
 use denote.Builtin.{u32, usize, f64}
-use denote.Index.{row}
 use denote.Steps.{owned}
 
 module _ {M : Type 1} {𝓤 : URA M} {H : Heap 𝓤} {A : Atoms 𝓤} (W : Given 𝓤 H A) {Γ : List (Item 𝓤)} {G : Goal 𝓤 H} {rest : Fml} where

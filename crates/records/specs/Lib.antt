@@ -1,1 +1,2 @@
-pub mod Held
+-- What serves the code alone.
+pub mod HeldSteps

@@ -15,7 +15,7 @@ ghost use Rattle.recognisers.specs.Table.{judgeOf};
 ghost use Rattle.recognisers.specs.Refusal.{plainVerdict, answerTo, refusalIn, codesIn};
 ghost use Rattle.recognisers.specs.Call.{plainAnswer, plainNumber, plainCodes};
 ghost use Rattle.recognisers.specs.Export.{resultOf};
-ghost use Rattle.records.specs.Held.{windowBars};
+ghost use Rattle.records.specs.HeldSteps.{windowBars};
 use measures::Bar;
 use recognisers::Answer;
 use recognisers::Pair;

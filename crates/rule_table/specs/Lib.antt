@@ -1,2 +1,3 @@
 -- The table of "The eighteen".
 pub mod Table
+pub mod TableSteps

@@ -127,10 +127,3 @@ numbers (suc n) k = k ∷ numbers n (k + 1)
 -- the pairs of the recognisers in the order of their numbers, at an offset of a history
 unfoldable pub pairsAt : Thresholds → ℕ → List Bar → ℕ → List Pair
 pairsAt t len history di = map (λ k. pairAt k t len history di) (numbers recognisers 0)
-
--- ---- the same over the windows of a judged bar, as the code's helpers have it
-unfoldable pub rulesOf : Thresholds → ℕ → Bool → List Bar → List Bar → List Pair
-rulesOf t len deep w gate = map (λ k. ruleOf k t len deep w gate) (numbers recognisers 0)
-
-unfoldable pub pairsOf : Thresholds → ℕ → ℕ → List Bar → List Bar → List Pair
-pairsOf t len p w gate = map (λ k. judgeOf k t len p w gate) (numbers recognisers 0)

@@ -46,14 +46,16 @@ fn part(prices: &[f64], from: usize, to: usize) -> &[f64]
 
 // The prices of the first n bars of a run, or of all if there are fewer.
 pub fn first_bars(prices: &[f64], n: usize) -> &[f64]
-    ensures { λ r. ⌜ (now r ≡ pricesFrom (now (prices .entry)) 0 (Nat.min n (length (barsOf (now (prices .entry)))))) × (barsOf (now r) ≡ take n (barsOf (now (prices .entry)))) ⌝ }
+    ensures prices { λ r. ⌜ now r ≡ pricesFrom (now (prices .entry)) 0 (Nat.min n (length (barsOf (now (prices .entry))))) ⌝ }
+    ensures bars { λ r. ⌜ barsOf (now r) ≡ take n (barsOf (now (prices .entry))) ⌝ }
 {
     part(prices, 0, least(n, count(prices)))
 }
 
 // The prices of the last n bars up to the judged one. Prices at the end of a run that make no whole bar are passed over.
 pub fn last_bars(prices: &[f64], di: usize, n: usize) -> &[f64]
-    ensures { λ r. ⌜ (now r ≡ windowPrices (now (prices .entry)) di n) × (barsOf (now r) ≡ windowOf (barsOf (now (prices .entry))) di n) ⌝ }
+    ensures prices { λ r. ⌜ now r ≡ windowPrices (now (prices .entry)) di n ⌝ }
+    ensures bars { λ r. ⌜ barsOf (now r) ≡ windowOf (barsOf (now (prices .entry))) di n ⌝ }
 {
     let p = up_to(count(prices), di);
     part(prices, p - least(n, p), p)

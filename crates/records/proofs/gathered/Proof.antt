@@ -57,7 +57,7 @@ use denote.Exit.{yes}
 use Rattle.measures.specs.Bar.{Bar, noBar}
 use Rattle.recognisers.specs.Number.{reachBars}
 use Rattle.records.specs.declared.Window.{Window}
-use Rattle.records.specs.Held.{windowBars}
+use Rattle.records.specs.HeldSteps.{windowBars}
 use Rattle.records.proofs.HeldLaws.{withBar, no-bars, next-bar}
 use Rattle.records.proofs.Walk.{own, own-usize}
 use Rattle.measures.proofs.runs.put_bar as put

@@ -5,7 +5,7 @@ use native.Mathlib.Omega.{arith}
 use borrow.Author.Needs.{needs}
 use lib.ListN.{length, length-map, length-take}
 use Rattle.recognisers.specs.Number.{reachBars}
-use Rattle.records.specs.Held.{windowBars}
+use Rattle.records.specs.HeldSteps.{windowBars}
 use Rattle.records.proofs.pair_in.Statement.{statement}
 use Rattle.records.proofs.pair_in.Tie as tie
 

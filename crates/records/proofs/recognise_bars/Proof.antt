@@ -49,7 +49,7 @@ use Rattle.recognisers.specs.Table.{judgeOf}
 use Rattle.recognisers.specs.Refusal.{answerTo, plainVerdict}
 use Rattle.recognisers.proofs.AnswerLaws.{Answers, plain-values}
 use Rattle.records.specs.declared.Window.{Window}
-use Rattle.records.specs.Held.{windowBars}
+use Rattle.records.specs.HeldSteps.{windowBars}
 use Rattle.records.proofs.HeldLaws.{answer-held}
 use Rattle.records.proofs.Walk.{own, own-u32, own-usize}
 use Rattle.prices.proofs.bars.Bar as T

@@ -47,7 +47,7 @@ use Rattle.measures.proofs.WindowLaws.{upTo-le}
 use Rattle.recognisers.specs.Number.{reachBars}
 use Rattle.records.specs.declared.Span.{Span}
 use Rattle.records.specs.declared.Window.{Window}
-use Rattle.records.specs.Held.{windowBars}
+use Rattle.records.specs.HeldSteps.{windowBars}
 use Rattle.records.proofs.HeldLaws.{window-gathered}
 use Rattle.records.proofs.Walk.{own, own-usize}
 use Rattle.prices.proofs.bars.Bar as T

@@ -4,21 +4,17 @@ use borrow.Author.Needs.{needs}
 use Rattle.windows.proofs.up_to.Statement.{statement}
 use Rattle.windows.proofs.up_to.Tie as tie
 
--- src/lib.rt:149:9
 add-result : tie.Need-add-result
 add-result c = search needs
 
--- src/lib.rt:141:1
 returns : tie.Need-returns
 unfolding upTo
 returns c = simp (eq-eqb _ _ (c .if1 .taken))
 
--- src/lib.rt:141:1
 returns-2 : tie.Need-returns-2
 unfolding upTo
 returns-2 c = simp (ne-eqb _ _ (c .before .if1 .left), lt-ltb _ _ (c .if2 .taken))
 
--- src/lib.rt:141:1
 returns-3 : tie.Need-returns-3
 unfolding upTo
 returns-3 c = simp (ne-eqb _ _ (c .before .if1 .left), le-ltb _ _ (c .if2 .left))

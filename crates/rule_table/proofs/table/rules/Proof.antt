@@ -2,7 +2,8 @@
 use mathlib.Core.Path.{_≡_, refl}
 use Rattle.measures.specs.Bar.{barsOf}
 use Rattle.growing_rules.proofs.GrowingLaws.{san-fa-near, ta-xing-near}
-use Rattle.rule_table.specs.Table.{tableRow, rows, seenOf, numbers, ruleOf, rulesOf}
+use Rattle.rule_table.specs.Table.{tableRow, rows, seenOf, numbers, ruleOf}
+use Rattle.rule_table.specs.TableSteps.{rulesOf}
 use Rattle.rule_table.proofs.TableLaws.{both}
 use Rattle.rule_table.proofs.table.rules.Statement.{statement}
 use Rattle.rule_table.proofs.table.rules.Tie as tie
