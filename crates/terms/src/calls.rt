@@ -1,24 +1,26 @@
 // Making, a run of bars and a close.
 ghost use mathlib.Core.Path.{_≡_};
+ghost use mathlib.Core.List.{[], _∷_};
 ghost use Prim.Native.Nat.{_+_, _*_, _≤_};
 ghost use lib.ListN.{length, take, drop};
-ghost use Rattle.measures.specs.Bar.{barsOf, overlay};
+ghost use Rattle.measures.specs.Bar.{barsOf, overlay, pricesOf};
 ghost use Rattle.recognisers.specs.declared.call.Verdict.the-variants.{Accepted};
 ghost use Rattle.recognisers.specs.Number.{rowBytes};
 ghost use Rattle.recognisers.specs.Refusal.{leaves, verdictNumber};
 ghost use Rattle.bar_box.specs.Sheet.{rowsOf};
-ghost use Rattle.bar_box.specs.Box.{kept, takenIn, feedVerdict};
+ghost use Rattle.bar_box.specs.Box.{kept, takenIn, feedVerdict, fedOf, sheetOf};
 ghost use Rattle.term_events.specs.declared.events.OpenBar.the-variants.{Nothing};
-ghost use Rattle.term_events.specs.Events.{endedOf, minutesOf};
+ghost use Rattle.term_events.specs.Events.{carriedWith, endedOf, minutesOf};
 ghost use Rattle.term_events.specs.EventSteps.{Ready};
 ghost use Rattle.term_events.specs.Verdicts.{makeVerdict};
-ghost use Rattle.terms.specs.Layer.{runVerdictOf, closeVerdictOf, madeOf, ranOf, ranSheet, closedOf, closedSheet};
+ghost use Rattle.terms.specs.Layer.{layerWith, runVerdictOf, closeVerdictOf, madeOf, ranOf, ranSheet, closedOf, closedSheet};
 ghost use Rattle.terms.specs.TermSteps.{progressOf};
 use crate::layers;
 use crate::layers::Layer;
 use crate::layers::Taken;
 use bar_box::BarBox;
 use bar_box::Outcome;
+use measures::Bar;
 use measures::put_bar;
 use recognisers::Thresholds;
 use recognisers::call::Verdict;
@@ -154,6 +156,15 @@ fn ended_by(v: Verdict, pending: OpenBar) -> OpenBar
     }
 }
 
+// Feeds one bar.
+fn feed_one(b: BarBox, bar: Bar, sheet: &mut [u8]) -> Outcome
+    ensures { λ r. ⌜ (r ≡ fedOf b (pricesOf (bar ∷ [])) (length (now (sheet .entry)))) × (now (sheet .exit) ≡ sheetOf b (pricesOf (bar ∷ [])) (now (sheet .entry))) ⌝ }
+{
+    let mut run = [0.0; 4];
+    put_bar(bar, &mut run, 0);
+    bar_box::feed(b, &run, sheet)
+}
+
 // Ends the open term, if there is one, and writes its bar's row, or refuses and leaves layer and sheet as they were: a refused close ends no
 // term bar.
 pub fn close(l: Layer, sheet: &mut [u8]) -> Taken
@@ -178,21 +189,21 @@ pub fn close(l: Layer, sheet: &mut [u8]) -> Taken
             verdict,
         },
         OpenBar::Begun(bar) => {
-            let mut run = [0.0; 4];
-            put_bar(bar, &mut run, 0);
             let b = l.inner;
-            let mut after = l;
-            let fed = bar_box::feed(b, &run, sheet);
-            let inner = fed.after;
-            after.inner = inner;
+            let h = l.hours;
             let last = c.last;
-            let left = Carried {
-                last,
-                pending: OpenBar::Nothing,
-            };
-            after.carried = left;
+            let fed = feed_one(b, bar, sheet);
+            let inner = fed.after;
             Taken {
-                after,
+                after: Layer {
+                    inner,
+                    carried: Carried {
+                        last,
+                        pending: OpenBar::Nothing,
+                    },
+                    hours: h,
+                    minutes: l.minutes,
+                },
                 rows: 1,
                 verdict,
             }
