@@ -7,8 +7,9 @@ ghost use Rattle.recognisers.specs.Export.{resultOf};
 ghost use Rattle.bar_box.specs.Box.{freshBox, fedOf, sheetOf};
 ghost use Rattle.exports.specs.Feeds.{lookAfter};
 use crate::numbers::verdict_number;
-use crate::parts;
 use bar_box::Outcome;
+use part_feeds::feed_parts;
+use part_feeds::fresh;
 use recognisers::LookAnswer;
 use recognisers::Thresholds;
 use recognisers::call::Verdict;
@@ -21,7 +22,7 @@ fn fed(t: Thresholds, sizes: &[u32], prices: &[f64], sheet: &mut [u8]) -> Outcom
     ensures { λ r. ⌜ (r ≡ fedOf (freshBox t) (now (prices .entry)) (length (now (sheet .entry)))) × (now (sheet .exit) ≡ sheetOf (freshBox t) (now (prices .entry)) (now (sheet .entry))) ⌝ }
 {
     let uncounted = tallies::fresh();
-    let fed = parts::feed_parts(parts::fresh(t), false, uncounted, sizes, prices, sheet);
+    let fed = feed_parts(fresh(t), false, uncounted, sizes, prices, sheet);
     let after = fed.after;
     let verdict = fed.verdict;
     Outcome { after, verdict }

@@ -29,7 +29,6 @@ use Rattle.term_events.specs.declared.events.{Carried.Carried, Passed.Pa
 use Rattle.term_events.specs.Events.{Event, Minute, inTermOf, minuteStep, stepBy, openBars, endedOf, carriedOf, minutesOf}
 use Rattle.term_events.specs.Verdicts.{above, soundCarried, validLayer, stampsTried}
 use Rattle.term_events.specs.EventSteps.{endAfter, nextEnd, insideBy, EndKnown, someIn, putEnded, passedWith, passOf, Ready}
-use Rattle.term_events.proofs.EventLaws.{few-in}
 use Rattle.term_events.proofs.StampLaws.{first-passed, sound-closed}
 use Rattle.term_events.proofs.VerdictLaws.{layer-meets}
 
