@@ -34,7 +34,7 @@ module _ {A : Type 0} where
   behind-more xs ys at k le = rw (← drop-drop k at (take at xs ++ ys), drop-at (take at xs) ys at (length-take-le at xs le))
 
   -- one element and then others, as far as there are places
-  pub overlay-step : (s : List A) (i : ℕ) (x : A) (xs : List A)
+  overlay-step : (s : List A) (i : ℕ) (x : A) (xs : List A)
       → overlay s i (take (length s - i) (x ∷ xs)) ≡ overlay (overlay s i (take (length s - i) (x ∷ []))) (i + 1) (take (length s - (i + 1)) xs)
   overlay-step s i x xs =
       elim (decLt i (length s)) [
@@ -47,3 +47,8 @@ module _ {A : Type 0} where
             let next : length s - (i + 1) ≡ 0 = omega arith in
             rw (here, next, overlay-none s i, overlay-none s (i + 1)))
       ]
+
+  -- as the code has it
+  pub overlay-then : (s then : List A) (i : ℕ) (x : A) (xs all : List A) → then ≡ overlay s i (take (length s - i) (x ∷ [])) → length then ≡ length s → all ≡ x ∷ xs
+      → overlay s i (take (length s - i) all) ≡ overlay then (i + 1) (take (length then - (i + 1)) xs)
+  overlay-then s then i x xs all is size more = rw (more, size, is) (overlay-step s i x xs)

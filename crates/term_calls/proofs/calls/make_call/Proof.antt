@@ -1,11 +1,5 @@
 -- A close, or a run of the bars that are left; both on the sheet from a byte on. Assumes nothing.
-use Prim.Native.Nat.{_-_, _*_}
-use mathlib.Core.Path.{_∙_}
-use native.Mathlib.Omega.{arith}
-use lib.ListN.{length, drop, length-drop}
-use lib.Seq.{take-all}
-use Rattle.term_calls.proofs.ListLaws.{part-is, put-rest}
-use Rattle.term_calls.proofs.CallLaws.{call-close, call-run}
+use Rattle.term_calls.proofs.CallLaws.{Made, made-close, made-run}
 use borrow.Author.Needs.{needs}
 use Rattle.term_calls.proofs.calls.make_call.Statement.{statement}
 use Rattle.term_calls.proofs.calls.make_call.Tie as tie
@@ -26,15 +20,12 @@ same-length : tie.Need-same-length
 same-length c = search needs
 
 returns : tie.Need-returns
+unfolding Made
 returns c =
     let made = c .before .before in
-    let start = made .before .before .before .before .before .before in
-    let args = start .args in
-    let sheet = args .sheet .now in
-    let call = call-close (args .size) (drop (args .p) (args .prices .now)) (drop (args .s) (args .stamps .now)) (drop (args .at) sheet) (made .before .before .if1 .taken) in
+    let args = made .before .before .before .before .before .before .args in
     let out = made .close .ensures in
-    let same = take-all (length sheet - args .at) (drop (args .at) sheet) (omega (arith, length-drop (args .at) sheet)) in
-    rw call (out .0 ∙ rw same, rw (put-rest sheet (args .at)) (rw (out .1 .0, same)))
+    made-close (args .l) (args .size) (args .prices .now) (args .p) (args .stamps .now) (args .s) (args .sheet .now) (args .at) (made .before .before .if1 .taken) _ _ (out .0) (out .1 .0)
 
 mul-least : tie.Need-mul-least
 mul-least c = search needs
@@ -91,25 +82,15 @@ same-length-2 : tie.Need-same-length-2
 same-length-2 c = search needs
 
 returns-2 : tie.Need-returns-2
+unfolding Made
 returns-2 c =
     let made = c .before .before in
-    let parts = made .before .before .before in
-    let s-end = parts .before in
+    let s-end = made .before .before .before .before in
     let p-end = s-end .before in
     let start = p-end .before .before .before .before .before in
     let args = start .args in
-    let pre = start .pre in
-    let sheet = args .sheet .now in
-    let ps = args .prices .now in
-    let ss = args .stamps .now in
-    let call = call-run (args .size) (drop (args .p) ps) (drop (args .s) ss) (drop (args .at) sheet) (p-end .before .if1 .left) in
     let out = made .run .ensures in
-    let same = take-all (length sheet - args .at) (drop (args .at) sheet) (omega (arith, length-drop (args .at) sheet)) in
-    let prices-are = part-is ps (args .p) (4 * args .size) (pre .0) in
-    let stamps-are = part-is ss (args .s) (args .size) (pre .1) in
-    let ends = p-end .least .ensures in
-    let ends-2 = s-end .least2 .ensures in
-    rw call (out .0 ∙ rw (ends, ends-2, prices-are, stamps-are, same), rw (put-rest sheet (args .at)) (rw (out .1 .0, ends, ends-2, prices-are, stamps-are, same)))
+    made-run (args .l) (args .size) (args .prices .now) (args .p) (args .stamps .now) (args .s) (args .sheet .now) (args .at) (p-end .before .if1 .left) (start .pre .0) (start .pre .1) _ _ (p-end .least .ensures) (s-end .least2 .ensures) _ _ (out .0) (out .1 .0)
 
 pub make-call-spec : {M : Type 1} → statement M
 make-call-spec =

@@ -12,8 +12,8 @@ use Rattle.measures.proofs.Overlay.{overlay-none}
 use Rattle.recognisers.specs.Number.{rowBytes, mostBars}
 use Rattle.term_calls.specs.Numbers.{writtenTo}
 use Rattle.term_calls.specs.TermCalls.{answersOf, sheetThrough}
-use Rattle.term_calls.proofs.ListLaws.{overlay-step}
-use Rattle.term_calls.proofs.CallLaws.{rows-at, sheet-next, answers-next}
+use Rattle.term_calls.proofs.ListLaws.{overlay-then}
+use Rattle.term_calls.proofs.CallLaws.{rows-at, call-next}
 use Rattle.term_calls.proofs.calls.make_calls.Statement.{statement}
 use Rattle.term_calls.proofs.calls.make_calls.Tie as tie
 
@@ -104,38 +104,24 @@ loop-again c =
     let made = c .before .before .before .before .before .before .before .before in
     let inside = made .before .before .before .before .before in
     let at-loop = inside .before in
-    let start = at-loop .before .before .before .before .before .before in
-    let args = start .args in
-    let ps = args .prices .now in
-    let ss = args .stamps .now in
-    let sizes = args .sizes .now in
-    let inv = at-loop .loop .inv in
-    let i = at-loop .loop .i in
-    let within : i < length sizes = inside .loop-test .taken in
-    let answered = c .before .before .before .before in
-    let l = at-loop .loop .layer in
-    let sheet = at-loop .loop .sheet in
-    let p = at-loop .loop .p in
-    let s = at-loop .loop .s in
-    let at = at-loop .loop .at in
+    let at = at-loop .loop in
+    let args = at-loop .before .before .before .before .before .before .args in
+    let inv = at .inv in
+    let answered = c .before .before .before .before .put-answer in
     let out = made .make-call .ensures in
     let s-end = made .before .before .least2 .ensures in
     let p-end = made .before .before .before .least .ensures in
     let same-sheet = made .make-call .kept .1 .1 .1 .1 .1 .1 .0 in
-    let same-answers = answered .put-answer .kept .1 .1 .0 in
-    let answers = at-loop .loop .answers in
-    let next-sheet = sheet-next l ps ss sheet sizes p s at i within (inv .3) in
-    let next-answers = answers-next l ps ss sheet sizes p s at i within (inv .3) in (
+    let same-answers = answered .kept .1 .1 .0 in
+    let next = call-next (at .layer) (args .prices .now) (args .stamps .now) (at .sheet) (args .sizes .now) (at .p) (at .s) (at .at) (at .i) (inside .loop-test .taken) (inv .3) _ _ _ _ (out .0) (out .1) p-end s-end in (
       omega arith,
       omega (arith, p-end),
       omega (arith, s-end),
       rw same-sheet (omega (arith, fit made .1)),
       same-sheet ∙ inv .4,
       same-answers ∙ inv .5,
-      inv .6 ∙ rw (out .1, out .0, p-end, s-end) next-sheet,
-      inv .7
-          ∙ rw (same-answers, answered .put-answer .ensures, out .1, out .0, p-end, s-end)
-          (ap (λ (xs : List ℕ). overlay answers i (take (length answers - i) xs)) next-answers ∙ overlay-step answers i _ _),
+      inv .6 ∙ next .0,
+      inv .7 ∙ overlay-then (at .answers) _ (at .i) _ _ _ (answered .ensures) same-answers (next .1),
     )
 
 same-length : tie.Need-same-length Inv-loop μ-loop
