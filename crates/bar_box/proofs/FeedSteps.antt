@@ -1,22 +1,21 @@
 -- One feed to the box that a history left, against the same feed to the plain history: its verdict, the box after it and the rows that it
 -- gives. Assumes nothing.
-use Prim.Native.Nat.{ℕ, _+_, _*_, _/_, _%_, _≤_}
+use Prim.Native.Nat.{ℕ, _+_, _*_, _≤_}
 use mathlib.Core.Path.{_≡_, refl, _∙_}
-use mathlib.Core.Bool.{Bool, true, false, cond}
-use mathlib.Core.List.{List, [], _∷_, _++_}
+use mathlib.Core.List.{List, [], _++_}
 use native.Mathlib.Omega.{arith}
 use native.Mathlib.Nat.{zero-add}
-use borrow.Author.Tests.{not-false, eqb-true, ltb-false, eq-eqb, le-ltb}
 use lib.ListN.{length, take, drop}
 use lib.Seq.{take-at, take-length}
 use lib.Ieee.{Float}
 use Rattle.measures.specs.Bar.{Bar, barsOf, overlay}
 use Rattle.measures.specs.Window.{newest}
 use Rattle.measures.proofs.RunLaws.{length-bars}
-use Rattle.recognisers.specs.Threshold.{Thresholds, validOf}
+use Rattle.recognisers.specs.Threshold.{Thresholds}
 use Rattle.answers.specs.declared.refusals.Verdict.{Verdict, the-variants.Accepted, the-variants.Denied}
-use Rattle.recognisers.specs.Number.{rowBytes, mostBars, places}
-use Rattle.recognisers.specs.Refusal.{Tried, firstTrue, leaves, feedTried, feedVerdict}
+use Rattle.recognisers.specs.Number.{rowBytes, places}
+use Rattle.recognisers.specs.Refusal.{leaves, feedVerdict}
+pub use Rattle.answers.proofs.VerdictLaws.{Fits, none-true, fits, accepts}
 use Rattle.box_record.specs.declared.boxes.BarBox.{BarBox}
 use Rattle.bar_box.specs.Sheet.{rowsOf}
 use Rattle.bar_box.specs.Box.{kept, takenIn, fedOf, sheetOf}
@@ -24,39 +23,6 @@ use Rattle.bar_box.specs.History.{Feed, verdictOn, appended, fed, rowsIn
 use Rattle.measures.proofs.Overlay.{overlay-none}
 use Rattle.bar_box.proofs.SheetLaws.{length-rows, rows-newest}
 use Rattle.bar_box.proofs.BoxLaws.{kept-taken, taken-append, taken-none}
-
--- ---- what an accepted feed meets
-
--- none of refusals 3 to 6 is true
-pub record Fits (t : Thresholds) (n prices sheet : ℕ) : Type 0 where
-  pub valid : validOf t ≡ true
-  pub whole : prices % 4 ≡ 0
-  pub few : n + prices / 4 ≤ mostBars
-  pub room : rowBytes * (prices / 4) ≤ sheet
-
--- where no refusal is true, the first is not and none of the others is
-pub none-true : (x : Tried) (xs : List Tried) → firstTrue (x ∷ xs) ≡ Accepted → (x .met ≡ false) × (firstTrue xs ≡ Accepted)
-unfolding firstTrue
-none-true x xs = go (x .met) refl
-  where
-    go : (m : Bool) → x .met ≡ m → cond m (Denied (x .why)) (firstTrue xs) ≡ Accepted → (x .met ≡ false) × (firstTrue xs ≡ Accepted)
-    go true e none = (cc, cc)
-    go false e none = (e, none)
-
--- an accepted feed meets them
-pub fits : (t : Thresholds) (n prices sheet : ℕ) → feedVerdict t n prices sheet ≡ Accepted → Fits t n prices sheet
-unfolding feedVerdict feedTried
-fits t n prices sheet none =
-    let three = none-true _ _ none in
-    let four = none-true _ _ (three .1) in
-    let five = none-true _ _ (four .1) in
-    let six = none-true _ _ (five .1) in
-    record { valid = not-false _ (three .0); whole = eqb-true _ _ (not-false _ (four .0)); few = ltb-false _ _ (five .0); room = ltb-false _ _ (six .0) }
-
--- and one that meets them is accepted
-pub accepts : (t : Thresholds) (n prices sheet : ℕ) → Fits t n prices sheet → feedVerdict t n prices sheet ≡ Accepted
-unfolding feedVerdict feedTried firstTrue
-accepts t n prices sheet f = simp (f .valid, eq-eqb (prices % 4) 0 (f .whole), le-ltb mostBars (n + prices / 4) (f .few), le-ltb sheet (rowBytes * (prices / 4)) (f .room))
 
 -- ---- a feed takes all lent prices in, or none
 

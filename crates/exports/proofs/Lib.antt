@@ -1,5 +1,4 @@
 -- The laws that the functions' proofs cite.
-pub mod CallLaws
-pub mod ListLaws
 pub mod NumberLaws
-pub mod PartLaws
+pub mod MakingLaws
+pub mod TallyLaws

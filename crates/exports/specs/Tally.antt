@@ -8,7 +8,7 @@ use Rattle.tallies.specs.declared.table.TallyRow.{TallyRow}
 use Rattle.tallies.specs.declared.feeds.Tallied.{Tallied}
 use Rattle.tallies.specs.Tally.{freshTally, cellOf, byPlace, gained}
 use Rattle.tallies.specs.Count.{cells}
-use Rattle.exports.specs.Numbers.{writtenTo}
+use Rattle.term_calls.specs.Numbers.{writtenTo}
 
 -- the table with these numbers; those that are missing are zeros
 unfoldable pub tallyIn : List ℕ → List TallyRow

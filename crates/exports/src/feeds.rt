@@ -7,21 +7,22 @@ ghost use Rattle.recognisers.specs.Export.{resultOf};
 ghost use Rattle.bar_box.specs.Box.{freshBox, fedOf, sheetOf};
 ghost use Rattle.exports.specs.Feeds.{lookAfter};
 use crate::numbers::verdict_number;
-use crate::parts;
 use bar_box::Outcome;
+use part_feeds::feed_parts;
+use part_feeds::fresh;
 use recognisers::LookAnswer;
 use recognisers::Thresholds;
-use recognisers::call::Verdict;
-use recognisers::call::answer_in;
-use recognisers::call::ordinal_in;
-use recognisers::export::answer_number;
+use recognisers::Verdict;
+use recognisers::answer_in;
+use recognisers::answer_number;
+use recognisers::ordinal_in;
 
 // A fresh box is fed the prices in feeds of these sizes.
 fn fed(t: Thresholds, sizes: &[u32], prices: &[f64], sheet: &mut [u8]) -> Outcome
     ensures { λ r. ⌜ (r ≡ fedOf (freshBox t) (now (prices .entry)) (length (now (sheet .entry)))) × (now (sheet .exit) ≡ sheetOf (freshBox t) (now (prices .entry)) (now (sheet .entry))) ⌝ }
 {
     let uncounted = tallies::fresh();
-    let fed = parts::feed_parts(parts::fresh(t), false, uncounted, sizes, prices, sheet);
+    let fed = feed_parts(fresh(t), false, uncounted, sizes, prices, sheet);
     let after = fed.after;
     let verdict = fed.verdict;
     Outcome { after, verdict }

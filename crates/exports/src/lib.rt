@@ -3,12 +3,11 @@
 // describes them for a host. All is proved, nothing is assumed, and no public function has a `requires`. th13 and th14 count tenths.
 pub mod feeds;
 mod numbers;
-mod parts;
 pub mod tally;
-pub mod term_calls;
+pub mod term_lists;
 
 pub use feeds::jcc_feed;
 pub use feeds::jcc_look;
 pub use feeds::jcc_look_ordinal;
 pub use tally::jcc_tally;
-pub use term_calls::jcc_terms;
+pub use term_lists::jcc_terms;

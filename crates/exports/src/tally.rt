@@ -8,17 +8,18 @@ ghost use Rattle.recognisers.specs.Threshold.{thresholdsOf};
 ghost use Rattle.bar_box.specs.Box.{freshBox};
 ghost use Rattle.tallies.specs.Tally.{cellOf, gainRow};
 ghost use Rattle.tallies.specs.Feed.{lent, talliedOf, talliedSheet};
-ghost use Rattle.exports.specs.Numbers.{writtenTo};
+ghost use Rattle.term_calls.specs.Numbers.{writtenTo};
 ghost use Rattle.exports.specs.Tally.{tallyIn, numbersOf, numbersAfter};
-use crate::numbers::number_at;
 use crate::numbers::verdict_number;
-use crate::parts;
 use measures::least;
+use part_feeds::feed_parts;
+use part_feeds::fresh;
 use recognisers::Thresholds;
-use recognisers::call::Verdict;
+use recognisers::Verdict;
 use recognisers::counts::LABELS;
 use recognisers::counts::RECOGNISERS;
 use tallies::TallyRow;
+use term_calls::number_at;
 
 // The numbers of a table.
 const CELLS: usize = LABELS * RECOGNISERS;
@@ -115,7 +116,7 @@ pub extern "C" fn jcc_tally(
         th14,
     );
     let tally = table_of(numbers);
-    let fed = parts::feed_parts(parts::fresh(t), true, tally, sizes, prices, sheet);
+    let fed = feed_parts(fresh(t), true, tally, sizes, prices, sheet);
     let verdict = fed.verdict;
     if let Verdict::Accepted = verdict {
         let after = fed.tally;

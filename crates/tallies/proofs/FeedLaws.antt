@@ -9,12 +9,12 @@ use lib.Seq.{take-at}
 use Rattle.measures.specs.Bar.{barsOf}
 use Rattle.recognisers.specs.Number.{rowBytes}
 use Rattle.recognisers.specs.Threshold.{Thresholds}
-use Rattle.recognisers.specs.Refusal.{firstTrue, nextAfter}
-use Rattle.recognisers.specs.declared.call.Refusal.{Refusal}
-use Rattle.recognisers.specs.declared.call.Verdict.the-variants.{Accepted, Denied}
-use Rattle.bar_box.specs.declared.boxes.BarBox.{BarBox}
+use Rattle.recognisers.specs.Refusal.{firstTrue, nextAfter, feedTried, feedVerdict}
+use Rattle.answers.specs.declared.refusals.Refusal.{Refusal}
+use Rattle.answers.specs.declared.refusals.Verdict.the-variants.{Accepted, Denied}
+use Rattle.box_record.specs.declared.boxes.BarBox.{BarBox}
 use Rattle.bar_box.specs.Sheet.{rowsOf}
-use Rattle.bar_box.specs.Box.{kept, takenIn, feedTried, feedVerdict, fedOf, sheetOf}
+use Rattle.bar_box.specs.Box.{kept, takenIn, fedOf, sheetOf}
 use Rattle.bar_box.specs.History.{Feed, fed}
 use Rattle.bar_box.proofs.SheetLaws.{length-rows}
 use Rattle.bar_box.proofs.FeedSteps.{none-true}

@@ -7,7 +7,7 @@ use native.Mathlib.Omega.{arith}
 use lib.ListN.{length}
 use Rattle.measures.specs.Bar.{Bar}
 use Rattle.recognisers.specs.Number.{rowBytes, places}
-use Rattle.bar_box.specs.declared.boxes.BarBox.{BarBox}
+use Rattle.box_record.specs.declared.boxes.BarBox.{BarBox}
 use Rattle.bar_box.specs.Box.{kept, takenIn}
 use Rattle.bar_box.proofs.SheetLaws.{length-rows}
 pub use Rattle.bar_box.proofs.PartLaws.{rowsFrom}

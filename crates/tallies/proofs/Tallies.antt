@@ -13,8 +13,8 @@ use Rattle.recognisers.specs.Number.{recognisers, labels, rowBytes}
 use Rattle.recognisers.specs.Label.{codeOf}
 use Rattle.recognisers.specs.Table.{pairAt, codesOf}
 use Rattle.recognisers.specs.Threshold.{Thresholds}
-use Rattle.recognisers.specs.declared.call.Verdict.{Verdict, the-variants.Accepted, the-variants.Denied}
-use Rattle.bar_box.specs.declared.boxes.BarBox.{BarBox}
+use Rattle.answers.specs.declared.refusals.Verdict.{Verdict, the-variants.Accepted, the-variants.Denied}
+use Rattle.box_record.specs.declared.boxes.BarBox.{BarBox}
 use Rattle.bar_box.specs.Sheet.{rowsOf}
 use Rattle.bar_box.specs.Box.{takenIn, fedOf, sheetOf}
 use Rattle.recognisers.specs.Refusal.{leaves}

@@ -5,11 +5,11 @@ use mathlib.Core.List.{List, [], _∷_}
 use lib.ListN.{length}
 use lib.Ieee.{Float}
 use Rattle.recognisers.specs.Threshold.{Thresholds}
-use Rattle.recognisers.specs.declared.call.Refusal.the-variants.{TooManyBars}
-use Rattle.recognisers.specs.declared.call.Verdict.{Verdict}
-use Rattle.recognisers.specs.Refusal.{Tried, tried, firstTrue, nextAfter, leaves}
-use Rattle.bar_box.specs.declared.boxes.BarBox.{BarBox}
-use Rattle.bar_box.specs.Box.{feedTried, sheetOf}
+use Rattle.answers.specs.declared.refusals.Refusal.the-variants.{TooManyBars}
+use Rattle.answers.specs.declared.refusals.Verdict.{Verdict}
+use Rattle.recognisers.specs.Refusal.{Tried, tried, firstTrue, nextAfter, leaves, feedTried}
+use Rattle.box_record.specs.declared.boxes.BarBox.{BarBox}
+use Rattle.bar_box.specs.Box.{sheetOf}
 use Rattle.bar_box.specs.History.{Feed, fed, rowsIn}
 use Rattle.tallies.specs.declared.table.TallyRow.{TallyRow}
 use Rattle.tallies.specs.declared.feeds.Tallied.{Tallied}

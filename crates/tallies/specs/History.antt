@@ -10,8 +10,8 @@ use Rattle.recognisers.specs.Number.{recognisers, labels, rowBytes}
 use Rattle.recognisers.specs.Label.{codeOf}
 use Rattle.recognisers.specs.Table.{pairAt}
 use Rattle.recognisers.specs.Threshold.{Thresholds}
-use Rattle.recognisers.specs.declared.call.Verdict.{Verdict}
-use Rattle.bar_box.specs.declared.boxes.BarBox.{BarBox}
+use Rattle.answers.specs.declared.refusals.Verdict.{Verdict}
+use Rattle.box_record.specs.declared.boxes.BarBox.{BarBox}
 use Rattle.bar_box.specs.Box.{sheetOf}
 use Rattle.recognisers.specs.Refusal.{leaves}
 use Rattle.bar_box.specs.Calls.{after, each, joined}

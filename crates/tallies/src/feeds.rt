@@ -7,9 +7,9 @@ use crate::counts;
 use crate::table;
 use crate::table::TallyRow;
 use bar_box::BarBox;
-use bar_box::feeds::checked;
 use recognisers::Thresholds;
-use recognisers::call::Verdict;
+use recognisers::Verdict;
+use recognisers::box_verdicts::checked;
 use recognisers::counts::RECOGNISERS;
 use recognisers::counts::ROW_BYTES;
 

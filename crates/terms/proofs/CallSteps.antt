@@ -9,33 +9,35 @@ use lib.Seq.{take-at}
 use Rattle.measures.specs.Bar.{Bar, pricesOf, barsOf}
 use Rattle.measures.proofs.RunLaws.{length-bars}
 use Rattle.recognisers.specs.Threshold.{Thresholds}
-use Rattle.recognisers.specs.declared.call.Verdict.{Verdict, the-variants.Accepted, the-variants.Denied}
+use Rattle.answers.specs.declared.refusals.Verdict.{Verdict, the-variants.Accepted, the-variants.Denied}
 use Rattle.recognisers.specs.Number.{places, rowBytes, mostBars}
 use Rattle.bar_box.specs.Sheet.{rowsOf}
-use Rattle.bar_box.specs.Box.{takenIn, feedVerdict, fedOf}
-use Rattle.recognisers.specs.Refusal.{firstTrue, leaves}
+use Rattle.bar_box.specs.Box.{takenIn, fedOf}
+use Rattle.recognisers.specs.Refusal.{firstTrue, leaves, feedVerdict}
 use Rattle.bar_box.specs.History.{oneFeed, fed, NoBars}
 use Rattle.bar_box.proofs.SheetLaws.{length-rows, rows-newest}
 use Rattle.bar_box.proofs.BoxLaws.{taken-append}
 use Rattle.measures.proofs.PriceLaws.{length-prices}
 use Rattle.bar_box.proofs.FeedSteps.{fits, count-after, kept-after}
 use Rattle.trading_hours.specs.declared.hours.Hours.{Hours}
-use Rattle.terms.specs.declared.events.Carried.{Carried}
-use Rattle.terms.specs.declared.events.LastStamp.the-variants.{Never}
+use Rattle.term_events.specs.declared.events.Carried.{Carried}
+use Rattle.term_events.specs.declared.events.LastStamp.the-variants.{Never}
 use Rattle.terms.specs.declared.layers.Layer.{Layer}
 use Rattle.terms.specs.declared.layers.Taken.{Taken}
-use Rattle.terms.specs.Events.{Event, Close, nothingYet, endedOf, carriedOf, stampsIn, minutesOf}
-use Rattle.terms.specs.Layer.{soundCarried, validLayer, stampsTried, layerWith, endedIn, afterEvents, takenOf, takenSheet, ranOf, ranSheet, closedOf, closedSheet}
+use Rattle.term_events.specs.Events.{Event, Close, nothingYet, endedOf, carriedOf, stampsIn, minutesOf}
+use Rattle.term_events.specs.Verdicts.{soundCarried, validLayer, stampsTried}
+use Rattle.terms.specs.Layer.{layerWith, endedIn, afterEvents, takenOf, takenSheet, ranOf, ranSheet, closedOf, closedSheet}
 use Rattle.terms.specs.History.{Call, Run, Shut, lentSheet, eventsIn, verdictBy, verdictOn, appended, called, sheetAfter, rowsOfCall, Rising}
 use mathlib.Core.Bool.{true, _&&_, and-true}
 use Rattle.trading_hours.specs.Hours.{validHours, inHours, termLength}
 use Rattle.trading_hours.specs.TermRule.{TermRule}
 use Rattle.trading_hours.proofs.HourLaws.{term-some}
 use Rattle.trading_hours.proofs.TermLaws.{term-rule}
-use Rattle.terms.proofs.EventLaws.{carried-last, carried-append, ended-append, ended-few, length-minutes}
+use Rattle.term_events.proofs.EventLaws.{carried-last, carried-append, ended-append, ended-few, length-minutes}
 use Rattle.terms.proofs.FeedLaws.{bars-accepted}
-use Rattle.terms.proofs.StampLaws.{stamps-at, stamps-rise, stamps-append, events-sound, minutes-stamps}
-use Rattle.terms.proofs.CallLaws.{LayerMeets, run-meets, close-meets, box-is, sheet-is}
+use Rattle.term_events.proofs.StampLaws.{stamps-at, stamps-rise, stamps-append, events-sound, minutes-stamps}
+use Rattle.term_events.proofs.VerdictLaws.{LayerMeets, run-meets, close-meets}
+use Rattle.terms.proofs.LayerLaws.{box-is, sheet-is}
 
 -- ---- a call of either kind
 

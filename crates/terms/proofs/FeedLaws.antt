@@ -10,9 +10,10 @@ use lib.Ieee.{Float}
 use Rattle.measures.specs.Bar.{Bar, barsOf, overlay, pricesOf}
 use Rattle.recognisers.specs.Number.{rowBytes}
 use Rattle.recognisers.specs.Threshold.{Thresholds}
-use Rattle.recognisers.specs.declared.call.Verdict.the-variants.{Accepted}
-use Rattle.bar_box.specs.declared.boxes.BarBox.{BarBox}
-use Rattle.bar_box.specs.Box.{takenIn, feedVerdict, fedOf, sheetOf}
+use Rattle.answers.specs.declared.refusals.Verdict.the-variants.{Accepted}
+use Rattle.box_record.specs.declared.boxes.BarBox.{BarBox}
+use Rattle.recognisers.specs.Refusal.{feedVerdict}
+use Rattle.bar_box.specs.Box.{takenIn, fedOf, sheetOf}
 use Rattle.measures.proofs.PriceLaws.{length-prices}
 use Rattle.bar_box.proofs.FeedSteps.{fits, accepts}
 use Rattle.bar_box.proofs.PartLaws.{rowsFrom, restOf, length-rest, overlay-rest, fed-box, fed-sheet}

@@ -1,46 +1,47 @@
 -- What the calls take in, as the code goes by the verdict: nothing of a refused one; of an accepted run first the bars that end no term bar, and
 -- then the others; of an accepted close the open bar. And what making leaves. Assumes nothing.
-use Prim.Native.Nat.{ℕ, _-_, _*_, _≤_, _<_}
+use Prim.Native.Nat.{ℕ, _+_, _≤_}
 use mathlib.Core.Path.{_≡_, refl, ap, sym, _∙_}
 use mathlib.Core.List.{List, [], _∷_}
 use native.Mathlib.Omega.{arith}
 use borrow.Author.Tests.{not-false}
-use lib.ListN.{length, take, drop, length-drop, take-append-drop}
+use lib.ListN.{length, take, drop, take-append-drop}
 use lib.Seq.{take-all}
 use lib.Ieee.{Float}
 use Rattle.measures.specs.Bar.{Bar, barsOf, overlay, pricesOf}
-use Rattle.measures.proofs.RunLaws.{length-bars, bars-drop}
-use Rattle.recognisers.specs.Number.{places, rowBytes}
-use Rattle.recognisers.specs.declared.call.Verdict.{Verdict, the-variants.Accepted, the-variants.Denied}
-use Rattle.bar_box.specs.Sheet.{rowsOf}
-use Rattle.bar_box.specs.Box.{takenIn, feedVerdict, madeOf as boxMade}
-use Rattle.recognisers.specs.Refusal.{leaves}
+use Rattle.measures.proofs.RunLaws.{length-bars}
 use Rattle.measures.proofs.Overlay.{overlay-none}
+use Rattle.recognisers.specs.Number.{places}
+use Rattle.recognisers.specs.Threshold.{Thresholds, standardSet}
+use Rattle.answers.specs.declared.refusals.Verdict.{Verdict, the-variants.Accepted, the-variants.Denied}
+use Rattle.recognisers.specs.Refusal.{leaves, feedVerdict}
+use Rattle.bar_box.specs.Sheet.{rowsOf}
+use Rattle.bar_box.specs.Box.{takenIn, fedOf, sheetOf, madeOf as boxMade}
 use Rattle.bar_box.proofs.BoxLaws.{taken-none}
-use Rattle.bar_box.proofs.FeedSteps.{none-true, fits}
+use Rattle.bar_box.proofs.Demand3.{standard-valid}
+use Rattle.bar_box.proofs.FeedSteps.{none-true}
 use Rattle.bar_box.proofs.PartLaws.{rowsFrom, made-valid}
 use Rattle.trading_hours.specs.declared.hours.Hours.{Hours}
+use Rattle.trading_hours.specs.Hours.{withZeros}
 use Rattle.trading_hours.proofs.HourLaws.{term-some}
-use Rattle.terms.specs.declared.events.Carried.{Carried}
+use Rattle.term_events.specs.declared.events.{Carried.Carried, Passed.Passed}
+use Rattle.term_events.specs.declared.events.OpenBar.{OpenBar, the-variants.Nothing, the-variants.Begun}
+use Rattle.term_events.specs.Events.{Event, Close, nothingYet, carriedWith, openBars, endedOf, carriedOf, minutesOf}
+use Rattle.term_events.specs.Verdicts.{makeVerdict}
+use Rattle.term_events.specs.EventSteps.{Ready, endAfter, passOf}
+use Rattle.term_events.proofs.EventLaws.{carried-append, ended-append, ended-one, length-minutes}
+use Rattle.term_events.proofs.StepLaws.{ready-after, passed-by, pass-past}
+use Rattle.term_events.proofs.VerdictLaws.{run-meets}
 use Rattle.terms.specs.declared.layers.Layer.{Layer}
-use Rattle.terms.specs.Events.{Event, endedOf, carriedOf, minutesOf, Close, nothingYet, carriedWith, openBars}
-use Rattle.terms.specs.Layer.{layerWith, runVerdictOf, endedIn, taken, takenOf, takenSheet, ranOf, ranSheet, wholeDay, makeVerdict, madeBy, madeOf, closeVerdictOf, closedOf, closedSheet}
-use Rattle.terms.specs.Passing.{Ready, progressOf}
-use Rattle.terms.proofs.EventLaws.{carried-append, ended-append, length-minutes, few-in, ended-one}
-use Rattle.terms.proofs.FeedLaws.{fewer-accepted, some-room}
+use Rattle.terms.specs.Layer.{layerWith, runVerdictOf, endedIn, taken, takenOf, takenSheet, ranOf, ranSheet, wholeDay, madeBy, madeOf, closeVerdictOf, closedOf, closedSheet}
+use Rattle.terms.specs.TermSteps.{progressOf}
 use Rattle.terms.specs.History.{Run, Shut}
 use Rattle.terms.proofs.CallSteps.{call-feed}
-use Rattle.terms.proofs.CallLaws.{run-meets, taken-is, sheet-is, close-meets}
-use Rattle.terms.proofs.PassingLaws.{minutes-drop, ready-after}
-use Rattle.recognisers.specs.Threshold.{Thresholds, standardSet}
-use Rattle.bar_box.proofs.Demand3.{standard-valid}
-use Rattle.trading_hours.specs.Hours.{withZeros}
-use Rattle.terms.specs.declared.events.OpenBar.the-variants.{Nothing}
+use Rattle.terms.proofs.LayerLaws.{box-is, taken-is, sheet-is}
 
--- a run of which some bar is taken in is accepted
-pub some-taken : (v : Verdict) (n : ℕ) → 1 ≤ leaves v 0 n → v ≡ Accepted
-some-taken Accepted n some = refl
-some-taken (Denied r) n some = absurd (let z : ⊥ = omega arith in z)
+none-of : (bars : List Bar) → length bars ≤ 0 → bars ≡ []
+none-of [] few = refl
+none-of (b ∷ bars) few = absurd (let z : ⊥ = omega arith in z)
 
 module _ (l : Layer) (ps : List Float) (ss sheet : List ℕ) where
   abbrev h : Hours
@@ -55,20 +56,16 @@ module _ (l : Layer) (ps : List Float) (ss sheet : List ℕ) where
   abbrev verdict : Verdict
   verdict = runVerdictOf l (length ps) ss (length sheet)
 
-  -- ---- an accepted one
+  -- ---- an accepted run
 
   module _ (e : verdict ≡ Accepted) where
-    pub one-each : length ss ≡ length (barsOf ps)
+    one-each : length ss ≡ length (barsOf ps)
     one-each = run-meets _ _ _ _ _ _ _ _ e .one-each ∙ sym (length-bars ps)
 
-    pub run-ready : Ready h m (l .carried) ss
+    run-ready : Ready h m (l .carried) ss
     run-ready =
         let met = run-meets _ _ _ _ _ _ _ _ e in
         record { some = term-some _ (met .layer .minutes); valid = met .layer .hours; sound = met .layer .carried; rising = met .rising }
-
-    -- there are the prices of as many bars as there are stamps
-    pub bars-prices-are : (k : ℕ) → k ≤ length ss → 4 * k ≤ length ps
-    bars-prices-are k le = omega (arith, one-each, length-bars ps)
 
     -- the box's own feed is not refused
     run-feed : feedVerdict (l .inner .thresholds) (l .inner .count) (length (pricesOf (endedIn l events))) (length sheet) ≡ Accepted
@@ -83,67 +80,67 @@ module _ (l : Layer) (ps : List Float) (ss sheet : List ℕ) where
     unfolding ranSheet
     ran-sheet-is = sym (sheet-is l events sheet run-feed) ∙ ap (λ (v : Verdict). takenSheet v l events sheet) (sym e)
 
-    -- after the first k bars, in which no term bar ended
-    module _ (k : ℕ) (more : k < length ss) (none : endedOf h m (l .carried) (take k events) ≡ []) where
-      abbrev mid : Carried
-      mid = carriedOf h m (l .carried) (take k events)
+  -- ---- after a first part in which no term bar ended
 
-      abbrev later : List Event
-      later = minutesOf (drop k ss) (barsOf (drop (4 * k) ps))
+  -- where a bar is left the run is accepted; what is left of it leaves what the whole does
+  pub record Later (v : Verdict) (f : Passed) : Type 0 where
+    pub accepted : v ≡ Accepted
+    pub ready : Ready h m (f .carried) (drop (f .at) ss)
+    pub each : length ss ≡ length (barsOf ps)
+    pub within : f .at ≤ length ss
+    pub feed : feedVerdict (l .inner .thresholds) (l .inner .count) (length ps) (length sheet) ≡ Accepted
+    pub ran : let p = progressOf h m (f .carried) (l .inner) (drop (f .at) events) in taken v (p .rows) (layerWith h m (p .carried) (p .inner)) ≡ ranOf l ps ss (length sheet)
+    pub written : overlay sheet 0 (rowsFrom (l .inner) (endedOf h m (f .carried) (drop (f .at) events))) ≡ ranSheet l ps ss sheet
 
-      later-is : later ≡ drop k events
-      later-is = let at : 4 * k ≡ k * 4 = omega arith in rw (at, bars-drop k ps) (sym (minutes-drop k ss (barsOf ps)))
+  pub record Front (v : Verdict) (f : Passed) : Type 0 where
+    pub quiet : f .at ≡ length ss → (taken v 0 (layerWith h m (f .carried) (l .inner)) ≡ ranOf l ps ss (length sheet)) × (sheet ≡ ranSheet l ps ss sheet)
+    pub later : (f .at ≡ length ss → ⊥) → Later v f
 
-      ended-later : endedOf h m mid later ≡ endedIn l events
-      ended-later =
-          let whole = ended-append h m (l .carried) (take k events) (drop k events) in
-          rw (later-is) (sym (rw (take-append-drop k events, none) at whole))
-
-      carried-later : carriedOf h m mid later ≡ carriedOf h m (l .carried) events
-      carried-later =
-          let whole = carried-append h m (l .carried) (take k events) (drop k events) in
-          rw (later-is) (sym (rw (take-append-drop k events) at whole))
-
-      -- the code hands on what is left of the prices and stamps
-      pub left-are : (take (length ps - 4 * k) (drop (4 * k) ps) ≡ drop (4 * k) ps) × (take (length ss - k) (drop k ss) ≡ drop k ss)
-      left-are = (take-all (length ps - 4 * k) (drop (4 * k) ps) (omega (arith, length-drop (4 * k) ps)), take-all (length ss - k) (drop k ss) (omega (arith, length-drop k ss)))
-
-      pub later-fits : Ready h m mid (drop k ss) × (length (drop k ss) ≡ length (barsOf (drop (4 * k) ps))) × (feedVerdict (l .inner .thresholds) (l .inner .count) (length (drop (4 * k) ps)) (length sheet) ≡ Accepted)
-      later-fits =
-          let feed = run-meets _ _ _ _ _ _ _ _ e .feed in
-          let f = fits _ _ _ _ feed in
-          let left = length-drop (4 * k) ps in
-          let each = one-each in
-          let bars = length-bars ps in
-          let at : 4 * k ≡ k * 4 = omega arith in (
-            ready-after h m (l .carried) ss (barsOf ps) k one-each run-ready,
-            rw (at, bars-drop k ps, length-drop, length-drop, one-each),
-            fewer-accepted _ _ _ _ feed _ _ _ (omega (arith, f .whole)) (omega arith) (omega (arith, f .room)),
-          )
-
-      pub later-ran : let p = progressOf h m mid (l .inner) later in taken Accepted (p .rows) (layerWith h m (p .carried) (p .inner)) ≡ ranOf l ps ss (length sheet)
-      later-ran = rw (ended-later, carried-later) ran-is
-
-      pub later-sheet : overlay sheet 0 (rowsFrom (l .inner) (endedOf h m mid later)) ≡ ranSheet l ps ss sheet
-      later-sheet = rw ended-later ran-sheet-is
-
-  -- ---- one in which no term bar ended, or that is refused
+  abbrev passedFrom : ℕ → Passed
+  passedFrom from = passOf h m (barsOf ps) (l .carried) (endAfter h m (l .carried .last)) from 0 [] (drop from ss) .0
 
   module _ (all : length (l .inner .bars) ≡ places) where
-    pub quiet-run : (v : Verdict) → verdict ≡ v
-        → let n = leaves v 0 (length ss) in
-        endedOf h m (l .carried) (take n events) ≡ []
-        → (taken v 0 (layerWith h m (carriedOf h m (l .carried) (take n events)) (l .inner)) ≡ ranOf l ps ss (length sheet)) × (sheet ≡ ranSheet l ps ss sheet)
-    unfolding ranOf ranSheet carriedOf rowsOf
-    quiet-run Accepted e none =
-        let total = length-minutes ss (barsOf ps) (one-each e) in
-        let whole = take-all (length ss) events (omega arith) in
-        let quiet : endedIn l events ≡ [] = rw whole at none in
-        let same : taken Accepted 0 (layerWith h m (carriedOf h m (l .carried) events) (l .inner)) ≡ taken Accepted (length (endedIn l events)) (layerWith h m (carriedOf h m (l .carried) events) (takenIn (l .inner) (endedIn l events))) =
-        rw (quiet, taken-none (l .inner) all) in
-        let none-written : overlay sheet 0 (rowsFrom (l .inner) (endedIn l events)) ≡ sheet = rw quiet (overlay-none sheet 0) in
-        (rw whole (same ∙ ran-is e), sym none-written ∙ ran-sheet-is e)
-    quiet-run (Denied r) e none = (rw e, rw e)
+    front-of : (v : Verdict) → verdict ≡ v → Front v (passedFrom (leaves v (length ss) 0))
+    unfolding ranOf ranSheet rowsOf
+    front-of Accepted e =
+        let c = l .carried in
+        let each = one-each e in
+        let total = length-minutes ss (barsOf ps) each in
+        let by = passed-by h m (barsOf ps) c 0 0 [] ss (run-ready e) (omega arith) (omega arith) in
+        let f = passedFrom 0 in
+        let at : f .at ≡ by .passed = omega (arith, by .at) in
+        let none : endedOf h m c (take (f .at) events) ≡ [] = rw at (none-of _ (omega (arith, by .ended, by .few))) in
+        let carried : f .carried ≡ carriedOf h m c (take (f .at) events) = by .carried ∙ rw at in
+        let ended-later : endedOf h m (f .carried) (drop (f .at) events) ≡ endedIn l events = rw carried (sym (rw (take-append-drop (f .at) events, none) at (ended-append h m c (take (f .at) events) (drop (f .at) events)))) in
+        let carried-later : carriedOf h m (f .carried) (drop (f .at) events) ≡ carriedOf h m c events = rw carried (sym (rw (take-append-drop (f .at) events) at (carried-append h m c (take (f .at) events) (drop (f .at) events)))) in
+        record {
+          quiet = λ past.
+              let whole : take (f .at) events ≡ events = take-all (f .at) events (omega arith) in
+              let quiet : endedIn l events ≡ [] = rw whole at none in
+              let same : taken Accepted 0 (layerWith h m (f .carried) (l .inner)) ≡ taken Accepted (length (endedIn l events)) (layerWith h m (carriedOf h m c events) (takenIn (l .inner) (endedIn l events))) =
+              rw (quiet, taken-none (l .inner) all, carried, whole) in
+              let none-written : overlay sheet 0 (rowsFrom (l .inner) (endedIn l events)) ≡ sheet = rw quiet (overlay-none sheet 0) in
+              (same ∙ ran-is e, sym none-written ∙ ran-sheet-is e);
+          later = λ other. record {
+            accepted = refl;
+            ready = rw carried (ready-after h m c ss (barsOf ps) (f .at) each (run-ready e));
+            each = each;
+            within = omega (arith, by .within);
+            feed = run-meets _ _ _ _ _ _ _ _ e .feed;
+            ran = rw (ended-later, carried-later) (ran-is e);
+            written = rw ended-later (ran-sheet-is e);
+          };
+        }
+    front-of (Denied r) e =
+        let none = ap (λ (x : Passed × List Float). x .0) (pass-past h m (barsOf ps) (l .carried) (endAfter h m (l .carried .last)) (length ss) 0 [] ss (omega arith)) in
+        record {
+          quiet = λ past. (ap (λ (f : Passed). taken (Denied r) 0 (layerWith h m (f .carried) (l .inner))) none ∙ rw e, rw e);
+          later = λ other. absurd (other (ap (λ (f : Passed). f .at) none));
+        }
+
+    -- as the code has it
+    pub front-is : (v : Verdict) → verdict ≡ v → (from : ℕ) → from ≡ leaves v (length ss) 0 → (f : Passed) → f ≡ passedFrom from → Front v f
+    front-is v e from is f made = rw (made, is) (front-of v e)
 
 -- ---- making, as the code goes by the verdict
 
@@ -155,26 +152,32 @@ made-is t h m (Denied r) e = rw (made-valid standardSet standard-valid) (ap (λ 
 
 -- ---- a close, as the code goes by the verdict: a refused one ends nothing
 
-abbrev pub closing : Layer → Verdict → List Bar
-closing l v = openBars (leaves v Nothing (l .carried .pending))
-
 module _ (l : Layer) (sheet : List ℕ) where
-  -- where something ends the box's own feed is accepted, and the sheet has room for a row
-  pub close-fits : (v : Verdict) → closeVerdictOf l (length sheet) ≡ v
-      → (1 ≤ length (closing l v) → feedVerdict (l .inner .thresholds) (l .inner .count) (4 * length (closing l v)) (rowBytes * length (closing l v)) ≡ Accepted) × (rowBytes * length (closing l v) ≤ length sheet)
-  close-fits Accepted e =
-      let met = close-meets _ _ _ _ _ _ e in
-      let few = few-in (l .carried .pending) in
-      (λ some. fewer-accepted _ _ _ _ (met .feed) _ _ _ (omega arith) (omega arith) (omega arith), omega (arith, some-room _ _ _ _ (met .feed) 0 (length (closing l Accepted)) (omega arith)))
-  close-fits (Denied r) e = (λ some. absurd (let z : ⊥ = omega arith in z), omega arith)
+  abbrev shut : List Event
+  shut = Close ∷ []
 
-  pub closed-is : length (l .inner .bars) ≡ places → (v : Verdict) → closeVerdictOf l (length sheet) ≡ v
-      → (taken v (length (closing l v)) (layerWith (l .hours) (l .minutes) (leaves v (l .carried) (carriedWith (l .carried .last) Nothing)) (takenIn (l .inner) (closing l v))) ≡ closedOf l (length sheet))
-      × (overlay sheet 0 (rowsFrom (l .inner) (closing l v)) ≡ closedSheet l sheet)
+  shut-ended : endedIn l shut ≡ openBars (l .carried .pending)
+  shut-ended = ended-one (l .hours) (l .minutes) (l .carried) Close
+
+  pub closed-none : length (l .inner .bars) ≡ places → (v : Verdict) → closeVerdictOf l (length sheet) ≡ v → leaves v Nothing (l .carried .pending) ≡ Nothing
+      → (taken v 0 l ≡ closedOf l (length sheet)) × (sheet ≡ closedSheet l sheet)
   unfolding closedOf closedSheet carriedOf rowsOf
-  closed-is all Accepted e =
-      let es = Close ∷ [] in
-      let ended : endedIn l es ≡ closing l Accepted = ended-one (l .hours) (l .minutes) (l .carried) Close in
+  closed-none all Accepted e none =
+      let ended : endedIn l shut ≡ [] = shut-ended ∙ ap openBars none in
       let feed = call-feed _ _ _ _ _ (Shut sheet) e in
-      (rw (← ended) (taken-is l es sheet feed ∙ ap (λ (v : Verdict). takenOf v l es (length sheet)) (sym e)), rw (← ended) (sym (sheet-is l es sheet feed) ∙ ap (λ (v : Verdict). takenSheet v l es sheet) (sym e)))
-  closed-is all (Denied r) e = (rw (taken-none (l .inner) all, e), rw e (overlay-none sheet 0))
+      let box : fedOf (l .inner) (pricesOf (endedIn l shut)) (length sheet) .after ≡ l .inner = box-is l shut sheet feed ∙ rw (ended, taken-none (l .inner) all) in
+      let left : takenOf Accepted l shut (length sheet) ≡ taken Accepted 0 (layerWith (l .hours) (l .minutes) (carriedWith (l .carried .last) Nothing) (l .inner)) = rw (box, ended) in
+      let written : takenSheet Accepted l shut sheet ≡ sheet = sheet-is l shut sheet feed ∙ rw ended (overlay-none sheet 0) in (
+        ap (λ (p : OpenBar). taken Accepted 0 (layerWith (l .hours) (l .minutes) (carriedWith (l .carried .last) p) (l .inner))) none ∙ sym (ap (λ (v : Verdict). takenOf v l shut (length sheet)) e ∙ left),
+        sym (ap (λ (v : Verdict). takenSheet v l shut sheet) e ∙ written),
+      )
+  closed-none all (Denied r) e none = (rw e, rw e)
+
+  pub closed-one : (bar : Bar) (v : Verdict) → closeVerdictOf l (length sheet) ≡ v → leaves v Nothing (l .carried .pending) ≡ Begun bar
+      → (taken v 1 (layerWith (l .hours) (l .minutes) (carriedWith (l .carried .last) Nothing) (fedOf (l .inner) (pricesOf (bar ∷ [])) (length sheet) .after)) ≡ closedOf l (length sheet))
+      × (sheetOf (l .inner) (pricesOf (bar ∷ [])) sheet ≡ closedSheet l sheet)
+  unfolding closedOf closedSheet carriedOf
+  closed-one bar Accepted e one =
+      let ended : endedIn l shut ≡ bar ∷ [] = shut-ended ∙ ap openBars one in
+      (sym (ap (λ (v : Verdict). takenOf v l shut (length sheet)) e ∙ rw ended), sym (ap (λ (v : Verdict). takenSheet v l shut sheet) e ∙ rw ended))
+  closed-one bar (Denied r) e one = absurd (let z : _≡_ {A = ℕ} 0 1 = cc in omega arith)

@@ -8,7 +8,7 @@ use native.Mathlib.Nat.{zero-add}
 use lib.ListN.{length, length-append}
 use Rattle.measures.specs.Bar.{Bar, pricesOf, barsOf}
 use Rattle.recognisers.specs.Threshold.{Thresholds, standardSet, validOf}
-use Rattle.recognisers.specs.declared.call.Verdict.{Verdict, the-variants.Accepted, the-variants.Denied}
+use Rattle.answers.specs.declared.refusals.Verdict.{Verdict, the-variants.Accepted, the-variants.Denied}
 use Rattle.recognisers.specs.Number.{rowBytes}
 use Rattle.bar_box.specs.Sheet.{rowsOf}
 use borrow.Author.Tests.{not-false}
@@ -24,14 +24,15 @@ use Rattle.bar_box.proofs.Demand3.{standard-valid, fresh-none, demand-3}
 use Rattle.bar_box.proofs.FeedSteps.{none-true, fits}
 use Rattle.bar_box.proofs.FeedLists.{Sound, sound-empty, one-accepted, one-box, one-rows}
 use Rattle.trading_hours.specs.declared.hours.Hours.{Hours}
-use Rattle.terms.specs.declared.events.Carried.{Carried}
+use Rattle.term_events.specs.declared.events.Carried.{Carried}
 use Rattle.terms.specs.declared.layers.Layer.{Layer}
-use Rattle.terms.specs.Events.{Event, nothingYet, endedOf, carriedOf, stampsIn}
+use Rattle.term_events.specs.Events.{Event, nothingYet, endedOf, carriedOf, stampsIn}
 use Rattle.terms.specs.History.{Call, eventsIn, verdictOn, appended, eventsAfter, called, layerLeft, layerAfter, endedInCall, joinedEnded, rowsOfCall, joinedRows, Rising, Holds, NoneYet, TermCalls}
 use Rattle.trading_hours.specs.Hours.{mostWindows, windowsOf, withZeros, validHours, risingFrom, termLength}
 use Rattle.trading_hours.proofs.HourLaws.{zeros-windows}
-use Rattle.terms.specs.Layer.{wholeDay, soundCarried, validLayer, makeVerdict, taken, madeBy, madeOf}
-use Rattle.terms.proofs.EventLaws.{carried-last, ended-append}
+use Rattle.term_events.specs.Verdicts.{soundCarried, validLayer, makeVerdict}
+use Rattle.terms.specs.Layer.{wholeDay, taken, madeBy, madeOf}
+use Rattle.term_events.proofs.EventLaws.{carried-last, ended-append}
 use Rattle.terms.proofs.CallSteps.{box-accepts, Kept, kept-none, kept-step, kept-rising, events-feed, layerOf, verdict-step, layer-step, rows-step}
 
 -- ---- one feed of bars to no history

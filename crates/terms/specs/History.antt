@@ -9,7 +9,7 @@ use lib.ListN.{length, getD, take}
 use lib.Ieee.{Float}
 use Rattle.measures.specs.Bar.{Bar, barsOf}
 use Rattle.recognisers.specs.Threshold.{Thresholds, validOf}
-use Rattle.recognisers.specs.declared.call.Verdict.{Verdict, the-variants.Accepted}
+use Rattle.answers.specs.declared.refusals.Verdict.{Verdict, the-variants.Accepted}
 use Rattle.recognisers.specs.Number.{rowBytes}
 use Rattle.recognisers.specs.Refusal.{leaves}
 use Rattle.bar_box.specs.Calls.{after, each, joined}
@@ -17,10 +17,11 @@ use Rattle.bar_box.specs.History.{NoBars, oneFeed, fed, rowsIn, Holds as BoxHol
 use Rattle.trading_hours.specs.declared.hours.Hours.{Hours}
 use Rattle.trading_hours.specs.Hours.{mostWindows, windowsOf, validHours, inHours, termOf, termLength}
 use Rattle.trading_hours.specs.TermRule.{Before}
-use Rattle.terms.specs.declared.events.LastStamp.{LastStamp, the-variants.Never}
+use Rattle.term_events.specs.declared.events.LastStamp.{LastStamp, the-variants.Never}
 use Rattle.terms.specs.declared.layers.{Layer.Layer, Taken.Taken}
-use Rattle.terms.specs.Events.{Event, Close, nothingYet, endedOf, carriedOf, stampAfter, stampsIn, minutesOf}
-use Rattle.terms.specs.Layer.{validLayer, runTried, closeTried, madeOf, endedIn, ranOf, ranSheet, closedOf, closedSheet}
+use Rattle.term_events.specs.Events.{Event, Close, nothingYet, endedOf, carriedOf, stampAfter, stampsIn, minutesOf}
+use Rattle.term_events.specs.Verdicts.{validLayer, runTried, closeTried}
+use Rattle.terms.specs.Layer.{madeOf, endedIn, ranOf, ranSheet, closedOf, closedSheet}
 
 -- what a call is lent: a run prices, one stamp a bar, and a sheet; a close a sheet
 pub data Call : Type 0 where

@@ -1,23 +1,20 @@
 -- 02, P6: the layer, its making, a run and a close, for every layer that a caller can hand in.
-use Prim.Native.Nat.{ℕ, _/_}
-use mathlib.Core.Bool.{Bool, true, false, _&&_}
-use mathlib.Core.List.{List, [], _∷_, _++_}
-use lib.Dec.{ltb, eqb}
+use Prim.Native.Nat.{ℕ}
+use mathlib.Core.List.{List, [], _∷_}
 use lib.ListN.{length}
 use lib.Ieee.{Float}
 use Rattle.measures.specs.Bar.{Bar, barsOf, pricesOf}
 use Rattle.recognisers.specs.Threshold.{Thresholds, standardSet}
-use Rattle.recognisers.specs.declared.call.Refusal.the-variants.{BadThreshold, BrokenBars}
-use Rattle.recognisers.specs.declared.call.Verdict.{Verdict, the-variants.Accepted, the-variants.Denied}
-use Rattle.recognisers.specs.Refusal.{Tried, badThreshold, brokenBars, lateStamp, outsideHours, badLayer, firstTrue, nextAfter, leaves}
-use Rattle.bar_box.specs.declared.boxes.BarBox.{BarBox}
-use Rattle.bar_box.specs.Box.{freshBox, feedTried, fedOf, sheetOf}
+use Rattle.answers.specs.declared.refusals.Verdict.{Verdict, the-variants.Accepted, the-variants.Denied}
+use Rattle.recognisers.specs.Refusal.{leaves}
+use Rattle.box_record.specs.declared.boxes.BarBox.{BarBox}
+use Rattle.bar_box.specs.Box.{freshBox, fedOf, sheetOf}
 use Rattle.trading_hours.specs.declared.hours.Hours.{Hours}
-use Rattle.trading_hours.specs.Hours.{dayMinutes, windowFrom, noWindow, hoursWith, withZeros, validHours, inHours, termLength}
-use Rattle.terms.specs.declared.events.{LastStamp.LastStamp, OpenBar.OpenBar, OpenBar.the-variants.Nothing, OpenBar.the-variants.Begun, Carried.Carried}
-use Rattle.terms.specs.declared.events.LastStamp.the-variants.{Never, At}
+use Rattle.trading_hours.specs.Hours.{dayMinutes, windowFrom, noWindow, hoursWith, withZeros}
+use Rattle.term_events.specs.declared.events.Carried.{Carried}
+use Rattle.term_events.specs.Events.{Event, Close, nothingYet, endedOf, carriedOf, minutesOf}
+use Rattle.term_events.specs.Verdicts.{makeVerdict, runVerdict, closeVerdict}
 use Rattle.terms.specs.declared.layers.{Layer.Layer, Taken.Taken}
-use Rattle.terms.specs.Events.{Event, Close, nothingYet, endedOf, carriedOf, minutesOf}
 
 -- ---- a fresh layer
 
@@ -30,50 +27,6 @@ freshLayer t h m = layerWith h m nothingYet (freshBox t)
 -- one window 0 to 1,440
 unfoldable pub wholeDay : Hours
 wholeDay = hoursWith (windowFrom 0 dayMinutes ∷ noWindow ∷ noWindow ∷ noWindow ∷ []) 1
-
--- ---- refusals
-
--- a kept stamp lies in the hours; an open term bar has a stamp
-unfoldable pub soundCarried : Hours → LastStamp → OpenBar → Bool
-soundCarried h Never Nothing = true
-soundCarried h Never (Begun b) = false
-soundCarried h (At s) pending = inHours h s
-
--- "hours, a term length or a kept stamp that break these rules, or an open term bar without a stamp" are 12's
-unfoldable pub validLayer : Hours → ℕ → Carried → Bool
-validLayer h m c = validHours h && termLength m && soundCarried h (c .last) (c .pending)
-
--- a stamp is above the one before it, in this call or an earlier one
-unfoldable pub above : LastStamp → ℕ → Bool
-above Never stamp = true
-above (At last) stamp = ltb last stamp
-
--- "bar by bar": 10, "next for the same bar" 11
-unfoldable pub stampsTried : Hours → LastStamp → List ℕ → List Tried
-stampsTried h last [] = []
-stampsTried h last (s ∷ ss) = lateStamp (above last s) ∷ outsideHours (inHours h s) ∷ stampsTried h (At s) ss
-
--- making tries 3 and 12
-unfoldable pub makeVerdict : Thresholds → Hours → ℕ → Verdict
-makeVerdict t h m = firstTrue (badThreshold t ∷ badLayer (validLayer h m nothingYet) ∷ [])
-
--- "A run is checked as a feed of that many bars .., with 4 also for another number of stamps than bars", 12 "next after 3", and 10 and 11 "after 6".
--- valid says that the layer keeps the rules, last is the last stamp, n the box's count, prices and sheet how many there are
-unfoldable pub runTried : Thresholds → Bool → Hours → LastStamp → ℕ → ℕ → List ℕ → ℕ → Verdict
-runTried t valid h last n prices stamps sheet =
-    let another = brokenBars (eqb (length stamps) (prices / 4)) in
-    firstTrue (nextAfter BadThreshold (badLayer valid ∷ []) (nextAfter BrokenBars (another ∷ []) (feedTried t n prices sheet)) ++ stampsTried h last stamps)
-
--- ".. and a close as a feed of one", open bar or not
-unfoldable pub closeTried : Thresholds → Bool → ℕ → ℕ → Verdict
-closeTried t valid n sheet = firstTrue (nextAfter BadThreshold (badLayer valid ∷ []) (feedTried t n 4 sheet))
-
--- as a layer that is handed in has it
-abbrev pub runVerdict : Thresholds → Hours → ℕ → Carried → ℕ → ℕ → List ℕ → ℕ → Verdict
-runVerdict t h m c n prices stamps sheet = runTried t (validLayer h m c) h (c .last) n prices stamps sheet
-
-abbrev pub closeVerdict : Thresholds → Hours → ℕ → Carried → ℕ → ℕ → Verdict
-closeVerdict t h m c n sheet = closeTried t (validLayer h m c) n sheet
 
 -- ---- the calls
 

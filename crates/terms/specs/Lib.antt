@@ -1,5 +1,5 @@
--- The layer of terms over the box as definitions; opening hours and the term rule are those of trading_hours.
-pub mod Events
+-- The layer of terms over the box as definitions; term bars and refusals are those of term_events, opening hours and the term rule those of
+-- trading_hours. TermSteps is for the code: no promise rests on it.
 pub mod Layer
-pub mod Passing
+pub mod TermSteps
 pub mod History

@@ -3,15 +3,13 @@
 // specs/, for every layer that a caller can hand in, for the result, the layer and every byte of the sheet. What every list of calls
 // leaves is proved in proofs/TermCalls.antt.
 pub mod calls;
-pub mod events;
 pub mod layers;
-pub mod verdicts;
 
 pub use calls::close;
 pub use calls::make;
 pub use calls::run;
-pub use events::Carried;
-pub use events::LastStamp;
-pub use events::OpenBar;
 pub use layers::Layer;
 pub use layers::Taken;
+pub use term_events::Carried;
+pub use term_events::LastStamp;
+pub use term_events::OpenBar;

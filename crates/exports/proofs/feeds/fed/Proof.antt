@@ -3,9 +3,9 @@ use mathlib.Core.Path.{_≡_, refl, _∙_}
 use borrow.Author.Needs.{needs}
 use lib.ListN.{length}
 use Rattle.measures.specs.Bar.{barsOf, overlay}
-use Rattle.recognisers.specs.declared.call.Verdict.{Verdict, the-variants.Accepted, the-variants.Denied}
-use Rattle.recognisers.specs.Refusal.{leaves}
-use Rattle.bar_box.specs.Box.{freshBox, takenIn, feedVerdict, fedOf, sheetOf}
+use Rattle.answers.specs.declared.refusals.Verdict.{Verdict, the-variants.Accepted, the-variants.Denied}
+use Rattle.recognisers.specs.Refusal.{leaves, feedVerdict}
+use Rattle.bar_box.specs.Box.{freshBox, takenIn, fedOf, sheetOf}
 use Rattle.bar_box.proofs.PartLaws.{rowsFrom}
 use Rattle.tallies.specs.Tally.{freshTally}
 use Rattle.tallies.specs.Feed.{talliedOf, talliedSheet}

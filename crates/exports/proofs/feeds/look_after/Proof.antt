@@ -1,7 +1,7 @@
 -- A refusal is the answer; otherwise the look is at the box that the feeds leave. Assumes nothing.
 use mathlib.Core.Path.{ap, sym, _∙_}
 use borrow.Author.Needs.{needs}
-use Rattle.bar_box.specs.declared.boxes.Outcome.{Outcome}
+use Rattle.box_record.specs.declared.boxes.Outcome.{Outcome}
 use Rattle.bar_box.specs.Box.{lookAnswerOf}
 use Rattle.exports.specs.Feeds.{lookAfter}
 use Rattle.exports.proofs.feeds.look_after.Statement.{statement}

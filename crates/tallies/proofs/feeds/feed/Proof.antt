@@ -7,7 +7,7 @@ use lib.Seq.{length-take-le}
 use Rattle.recognisers.specs.Number.{rowBytes}
 use Rattle.measures.specs.Bar.{barsOf}
 use Rattle.measures.proofs.RunLaws.{length-bars}
-use Rattle.bar_box.specs.declared.boxes.Outcome.{Outcome}
+use Rattle.box_record.specs.declared.boxes.Outcome.{Outcome}
 use Rattle.bar_box.specs.Sheet.{rowsOf}
 use Rattle.bar_box.specs.Box.{kept}
 use Rattle.bar_box.proofs.FeedSteps.{fits}

@@ -1,7 +1,6 @@
 -- A feed's tests, with the tally's beside the other of 5. Assumes nothing.
 use mathlib.Core.Path.{_∙_}
-use Rattle.recognisers.specs.Refusal.{firstTrue, nextAfter}
-use Rattle.bar_box.specs.Box.{feedTried, checkedTried}
+use Rattle.recognisers.specs.Refusal.{firstTrue, nextAfter, feedTried, checkedTried}
 use Rattle.tallies.specs.Feed.{tallyVerdict}
 use borrow.Author.Needs.{needs}
 use Rattle.tallies.proofs.feeds.tally_verdict.Statement.{statement}

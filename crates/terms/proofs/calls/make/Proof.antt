@@ -1,7 +1,7 @@
 -- By the verdict; the thresholds that are chosen are inside their limits. Assumes nothing.
 use mathlib.Core.Path.{ap, sym}
 use Rattle.recognisers.specs.Refusal.{verdictNumber}
-use Rattle.bar_box.specs.declared.boxes.Outcome.{Outcome}
+use Rattle.box_record.specs.declared.boxes.Outcome.{Outcome}
 use Rattle.terms.proofs.TakeLaws.{made-is}
 use borrow.Author.Needs.{needs}
 use Rattle.terms.proofs.calls.make.Statement.{statement}

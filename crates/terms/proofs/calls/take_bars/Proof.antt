@@ -1,116 +1,103 @@
 -- The loop's invariant: the term bars that ended in the bars passed are taken in, and their rows stand on the sheet. Assumes nothing.
 use Prim.Native.Nat.{_-_, _*_, _≤_}
-use mathlib.Core.Path.{_≡_, refl, ap, sym, _∙_}
+use mathlib.Core.Path.{_≡_, refl, sym, _∙_}
 use native.Mathlib.Omega.{arith}
 use borrow.Author.Needs.{needs}
-use lib.ListN.{length, length-map, take, drop, length-append}
-use lib.Seq.{take-all}
+use lib.ListN.{length, length-map, take, length-append}
 use Rattle.measures.specs.Bar.{barsOf, overlay}
+use Rattle.measures.proofs.Overlay.{overlay-none}
+use Rattle.recognisers.specs.Number.{places}
 use Rattle.bar_box.specs.Sheet.{rowsOf}
 use Rattle.bar_box.specs.Box.{kept, takenIn}
-use Rattle.measures.proofs.Overlay.{overlay-none}
 use Rattle.bar_box.proofs.BoxLaws.{taken-none, taken-append}
-use Rattle.measures.proofs.PriceLaws.{bars-prices}
 use Rattle.bar_box.proofs.PartLaws.{rows-both}
-use Rattle.recognisers.specs.Number.{places}
-use Rattle.terms.specs.Passing.{roomBars}
-use Rattle.terms.specs.Events.{endedOf, carriedOf, minutesOf}
-use Rattle.terms.proofs.EventLaws.{length-minutes, ended-more, carried-more}
-use Rattle.terms.proofs.PartLaws.{PartFits, part-fits}
-use Rattle.terms.proofs.PassingLaws.{ready-after}
+use Rattle.terms.proofs.PartLaws.{endedTo, carriedTo, PartFits, part-fits, none-ended, none-carried, all-passed}
 use Rattle.terms.proofs.calls.take_bars.Statement.{statement}
 use Rattle.terms.proofs.calls.take_bars.Tie as tie
 
 abbrev Inv-loop : tie.InvT-loop
-Inv-loop h m prices stamps sheet₀ run₀ n carried₀ inner₀ rows₀ done₀ sheet run carried inner rows done = let es = minutesOf stamps (barsOf prices) in (done ≤ n) × (length sheet ≡ length sheet₀) × (length run ≡ 4 * roomBars) × (carried ≡ carriedOf h m carried₀ (take done es)) × (inner ≡ takenIn inner₀ (endedOf h m carried₀ (take done es))) × (rows ≡ length (endedOf h m carried₀ (take done es))) × (sheet ≡ overlay sheet₀ 0 (rowsOf (inner₀ .thresholds) (inner₀ .count) (kept inner₀) (endedOf h m carried₀ (take done es))))
+Inv-loop h m prices stamps from sheet₀ run₀ carried₀ inner₀ rows₀ done₀ sheet run carried inner rows done =
+    let ended = endedTo h m carried₀ prices stamps from done in
+    (from ≤ done) × (done ≤ length stamps) × (length sheet ≡ length sheet₀) × (length run ≡ 128) × (carried ≡ carriedTo h m carried₀ prices stamps from done) × (inner ≡ takenIn inner₀ ended) × (rows ≡ length ended) × (sheet ≡ overlay sheet₀ 0 (rowsOf (inner₀ .thresholds) (inner₀ .count) (kept inner₀) ended))
 
 abbrev μ-loop : tie.MeasureT-loop
-μ-loop h m prices stamps sheet₀ run₀ n carried₀ inner₀ rows₀ done₀ sheet run carried inner rows done = n - done
+μ-loop h m prices stamps from sheet₀ run₀ carried₀ inner₀ rows₀ done₀ sheet run carried inner rows done = length stamps - done
 
 loop-holds : tie.Need-loop-holds Inv-loop μ-loop
-unfolding endedOf carriedOf rowsOf
+unfolding rowsOf
 loop-holds c =
     let start = c .before .before .before in
     let args = start .args in
     let all : length (args .b .bars) ≡ places = simp length-map at (start .good .0 .1 .1 .1 .1 .0 .1 .0 .1) in
-    (search needs, refl, refl, refl, sym (taken-none (args .b) all), refl, sym (overlay-none (args .sheet .now) 0))
-
-slice-aggregate-fill : tie.Need-slice-aggregate-fill Inv-loop μ-loop
-slice-aggregate-fill c = search needs
-
-fill-requires : tie.Need-fill-requires Inv-loop μ-loop
-fill-requires c κs =
-    let inside = c .before in
-    let at-loop = inside .before in
-    let start = at-loop .before .before .before .before in
-    let args = start .args in
-    let pre = start .pre in
-    let inv = at-loop .loop .inv in
-    let ready = ready-after (args .h) (args .m) (args .c) (args .stamps .now) (barsOf (args .prices .now)) (at-loop .loop .done) (pre .1) (pre .0) in
-    (rw (inv .3) ready, omega arith, pre .1, omega arith)
-
-slice-aggregate-feed-front : tie.Need-slice-aggregate-feed-front Inv-loop μ-loop
-slice-aggregate-feed-front c = search needs
+    let none = none-ended (args .h) (args .m) (args .c) (args .prices .now) (args .stamps .now) (args .from) in (
+      search needs,
+      start .pre .2,
+      refl,
+      refl,
+      sym (none-carried (args .h) (args .m) (args .c) (args .prices .now) (args .stamps .now) (args .from)),
+      sym (rw none (taken-none (args .b) all)),
+      rw none,
+      sym (rw none (overlay-none (args .sheet .now) 0)),
+    )
 
 -- what is known of the part that was passed
-part : (c : tie.After-fill Inv-loop μ-loop) → let at = c .before .before .before .loop in
+part : (c : tie.After-pass Inv-loop μ-loop) → let at = c .before .before .before .loop in
     let args = c .before .before .before .before .before .before .before .args in
-    PartFits (args .b .thresholds) (args .b .count) (length (args .sheet .now)) (length (args .stamps .now)) (at .done) (length (endedOf (args .h) (args .m) (args .c) (take (at .done) (minutesOf (args .stamps .now) (barsOf (args .prices .now)))))) (c .fill .result)
+    PartFits (args .h) (args .m) (args .c) (args .prices .now) (args .stamps .now) (args .from) (args .b .thresholds) (args .b .count) (length (args .sheet .now)) (at .done) (c .pass .result) (c .pass .last .1 .1 .1 .1 .1 .1 .0)
 part c =
     let inside = c .before .before in
     let at = inside .before .loop in
     let start = inside .before .before .before .before .before in
     let args = start .args in
-    part-fits (args .h) (args .m) (args .c) (args .prices .now) (args .stamps .now) (start .pre .1) _ _ _ (start .pre .2) (at .done) (inside .loop-test .taken) _ (c .fill .result) (rw (at .inv .3) at (c .fill .ensures))
+    let inv = at .inv in
+    part-fits (args .h) (args .m) (args .c) (args .prices .now) (args .stamps .now) (args .from) (start .pre .0) (start .pre .1) _ _ _ (start .pre .3) (at .done) (inv .0) (inside .loop-test .taken) (at .run) (omega arith) (at .carried) (inv .4) _ _ (c .pass .ensures)
+
+slice-aggregate-pass : tie.Need-slice-aggregate-pass Inv-loop μ-loop
+slice-aggregate-pass c = search needs
+
+pass-requires : tie.Need-pass-requires Inv-loop μ-loop
+pass-requires c κs = search needs
+
+slice-aggregate-feed-front : tie.Need-slice-aggregate-feed-front Inv-loop μ-loop
+slice-aggregate-feed-front c = search needs
 
 feed-front-requires : tie.Need-feed-front-requires Inv-loop μ-loop
 feed-front-requires c κs =
-    let filled = c .before .before .before in
-    let inv = filled .before .before .before .loop .inv in
-    let fit = part filled in
-    let size = filled .fill .kept .1 .1 .1 .1 .1 .1 .0 in
-    (λ some. rw (inv .4) (fit .accepted), (omega (arith, filled .fill .ensures .few), omega (arith, fit .room)))
+    let passed = c .before .before .before in
+    let inv = passed .before .before .before .loop .inv in
+    let fit = part passed in
+    (rw (inv .5) (fit .accepted), (fit .enough, omega (arith, fit .room)))
 
 add-rows : tie.Need-add-rows Inv-loop μ-loop
 add-rows c =
-    let filled = c .before .before .before .before .before .before .before .before .before in
-    let inv = filled .before .before .before .loop .inv in
-    omega (arith, part filled .few)
-
-add-done : tie.Need-add-done Inv-loop μ-loop
-add-done c = let fit = part (c .before .before .before .before .before .before .before .before .before .before) in omega (arith, fit .within, fit .most)
+    let passed = c .before .before .before .before .before .before .before .before .before in
+    let inv = passed .before .before .before .loop .inv in
+    omega (arith, part passed .few)
 
 loop-less : tie.Need-loop-less Inv-loop μ-loop
-loop-less c = let fit = part (c .before .before .before .before .before .before .before .before .before .before) in omega (arith, fit .within, fit .some)
+loop-less c = let fit = part (c .before .before .before .before .before .before .before .before .before) in omega (arith, fit .some, fit .within)
 
 loop-again : tie.Need-loop-again Inv-loop μ-loop
 loop-again c =
-    let filled = c .before .before .before .before .before .before .before .before .before .before in
-    let inside = filled .before .before in
-    let at-loop = inside .before in
-    let start = at-loop .before .before .before .before in
+    let passed = c .before .before .before .before .before .before .before .before .before in
+    let fed = c .before .before .before .before .before in
+    let at = passed .before .before .before .loop in
+    let start = passed .before .before .before .before .before .before .before in
     let args = start .args in
-    let pre = start .pre in
-    let inv = at-loop .loop .inv in
-    let by = rw (inv .3) at (filled .fill .ensures) in
-    let fit = part filled in
-    let passed = at-loop .loop .done in
-    let es = minutesOf (args .stamps .now) (barsOf (args .prices .now)) in
-    let f = filled .fill .result in
-    let old = endedOf (args .h) (args .m) (args .c) (take passed es) in
-    let new = endedOf (args .h) (args .m) (carriedOf (args .h) (args .m) (args .c) (take passed es)) (take (f .passed) (drop passed es)) in
-    let both-are = ended-more (args .h) (args .m) (args .c) es passed (f .passed) in
-    let fed = c .before .before .before .before .before .before in
     let b = args .b in
-    let all : length (b .bars) ≡ places = simp length-map at (start .good .0 .1 .1 .1 .1 .0 .1 .0 .1) in
-    let front = ap barsOf (by .prices) ∙ bars-prices new in (
-      omega (arith, fit .within),
-      fed .feed-front .kept .1 .1 .1 .0 ∙ inv .1,
-      filled .fill .kept .1 .1 .1 .1 .1 .1 .0 ∙ inv .2,
-      by .carried ∙ sym (carried-more (args .h) (args .m) (args .c) es passed (f .passed)),
-      fed .feed-front .ensures .0 ∙ rw (front, inv .4, both-are) (taken-append b all old new),
-      rw (both-are, length-append, by .count, inv .5),
-      fed .feed-front .ensures .1 ∙ rw (front, inv .4, inv .6, both-are) (rows-both b all old new (args .sheet .now) (at-loop .loop .rows) (inv .5) (omega (arith, fit .room, by .count))),
+    let inv = at .inv in
+    let fit = part passed in
+    let old = endedTo (args .h) (args .m) (args .c) (args .prices .now) (args .stamps .now) (args .from) (at .done) in
+    let new = barsOf (take (4 * passed .pass .result .count) (passed .pass .last .1 .1 .1 .1 .1 .1 .0)) in
+    let all : length (b .bars) ≡ places = simp length-map at (start .good .0 .1 .1 .1 .1 .0 .1 .0 .1) in (
+      omega (arith, fit .some),
+      fit .within,
+      fed .feed-front .kept .1 .1 .1 .0 ∙ inv .2,
+      passed .pass .kept .1 .1 .1 .1 .1 .1 .0 ∙ inv .3,
+      fit .carried,
+      fed .feed-front .ensures .0 ∙ rw (inv .5, fit .ended) (taken-append b all old new),
+      rw (fit .ended, length-append, fit .count, inv .6),
+      fed .feed-front .ensures .1 ∙ rw (inv .5, inv .7, fit .ended) (rows-both b all old new (args .sheet .now) (at .rows) (inv .6) (omega (arith, fit .room, fit .count))),
     )
 
 same-length : tie.Need-same-length Inv-loop μ-loop
@@ -118,16 +105,12 @@ same-length c = search needs
 
 returns : tie.Need-returns Inv-loop μ-loop
 returns c =
-    let at-loop = c .before in
-    let start = at-loop .before .before .before .before in
+    let at = c .before .loop in
+    let start = c .before .before .before .before .before in
     let args = start .args in
-    let pre = start .pre in
-    let inv = at-loop .loop .inv in
-    let passed = at-loop .loop .done in
-    let es = minutesOf (args .stamps .now) (barsOf (args .prices .now)) in
-    let total = length-minutes (args .stamps .now) (barsOf (args .prices .now)) (pre .1) in
-    let whole : take passed es ≡ es = take-all passed es (omega arith) in
-    (rw (inv .3, inv .4, inv .5, whole), inv .6 ∙ rw whole)
+    let inv = at .inv in
+    let whole = all-passed (args .h) (args .m) (args .c) (args .prices .now) (args .stamps .now) (args .from) (start .pre .1) (at .done) (c .loop-test .left) in
+    (rw (inv .4, inv .5, inv .6, whole), inv .7 ∙ rw whole)
 
 pub take-bars-spec : {M : Type 1} → statement M
 take-bars-spec =
@@ -136,12 +119,11 @@ take-bars-spec =
     Inv-loop
     μ-loop
     loop-holds
-    slice-aggregate-fill
-    fill-requires
+    slice-aggregate-pass
+    pass-requires
     slice-aggregate-feed-front
     feed-front-requires
     add-rows
-    add-done
     loop-less
     loop-again
     same-length
