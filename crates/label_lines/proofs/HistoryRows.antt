@@ -23,9 +23,10 @@ use Rattle.bar_box.proofs.FeedLists.{at-start}
 use Rattle.bar_box.proofs.Demand3.{standard-valid, fresh-none}
 use Rattle.text.specs.declared.line_text.Line.{Line, the-variants.Prices, the-variants.BadShape, the-variants.BadPrice}
 use Rattle.text.specs.LineText.{lineOf}
-use Rattle.text.specs.Lines.{linesOf}
-use Rattle.label_lines.specs.declared.output.Stop.the-variants.{By, Price}
-use Rattle.label_lines.specs.Output.{refusalLine, fedStep, readStep, lineStep, printedOf, outputOf}
+use Rattle.input_lines.specs.Lines.{linesOf}
+use Rattle.output_lines.specs.declared.output.Stop.the-variants.{By, Price}
+use Rattle.output_lines.specs.Output.{refusalLine}
+use Rattle.label_lines.specs.Output.{fedStep, readStep, lineStep, printedOf, outputOf}
 use Rattle.label_lines.specs.History.{newestLines, linesPrint, historyPrints}
 use Rattle.label_lines.proofs.SessionLaws.{fed-refused, fed-accepted}
 

@@ -1,8 +1,8 @@
 // The tally program: reads the lines that the labels program reads and prints how often each label came up. What it prints is fixed by
 // tally_lines; here is what moves bytes in and out.
-use label_lines::output::goes_on;
 use libc::STDIN_FILENO;
 use libc::STDOUT_FILENO;
+use output_lines::output::goes_on;
 use tally_lines::Session;
 use tally_lines::session;
 

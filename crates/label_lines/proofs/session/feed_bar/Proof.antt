@@ -3,15 +3,11 @@ use mathlib.Core.Path.{refl}
 use native.Mathlib.Omega.{arith}
 use borrow.Author.Needs.{needs}
 use Rattle.measures.specs.Bar.{pricesOf, putBar}
+use Rattle.output_lines.specs.Output.{lineRoom}
+use Rattle.output_lines.proofs.OutputLaws.{written}
 use Rattle.label_lines.proofs.SessionLaws.{fed-refused, fed-left, fed-accepted}
 use Rattle.label_lines.proofs.session.feed_bar.Statement.{statement}
 use Rattle.label_lines.proofs.session.feed_bar.Tie as tie
-
-cast-ordinal : tie.Need-cast-ordinal
-cast-ordinal c = search needs
-
-add-ordinal : tie.Need-add-ordinal
-add-ordinal c = search needs
 
 slice-aggregate-put-bar : tie.Need-slice-aggregate-put-bar
 slice-aggregate-put-bar c = search needs
@@ -31,17 +27,20 @@ feed-requires c κs = search needs
 enum-known-verdict : tie.Need-enum-known-verdict
 enum-known-verdict c = search needs
 
-write-refusal-requires : tie.Need-write-refusal-requires
-write-refusal-requires c κs = search needs
+refuse-requires : tie.Need-refuse-requires
+refuse-requires c κs = search needs
 
 enum-told : tie.Need-enum-told
 enum-told c = search needs
 
-slice-aggregate-write-rows : tie.Need-slice-aggregate-write-rows
-slice-aggregate-write-rows c = search needs
+cast-ordinal : tie.Need-cast-ordinal
+cast-ordinal c = search needs
 
-write-rows-requires : tie.Need-write-rows-requires
-write-rows-requires c κs = search needs
+add-ordinal : tie.Need-add-ordinal
+add-ordinal c = search needs
+
+print-rows-requires : tie.Need-print-rows-requires
+print-rows-requires c κs = search needs
 
 same-length : tie.Need-same-length
 same-length c = search needs
@@ -53,13 +52,12 @@ returns c =
     let verdict = refused .before .before .before in
     let fed = verdict .before .before .before .before in
     let put = fed .before .before .before .before in
-    let args = put .before .before .before .before .args in
+    let args = put .before .before .before .args in
     let is = rw (put .put-bar .ensures) at (fed .feed .ensures) in
     let denied = verdict .verdict .given .1 in
     let law = fed-refused (args .held) (args .bar) (fed .feed .result) (is .0) _ denied in
     let left = fed-left (args .held) (args .bar) (fed .feed .result) (is .0) _ denied in
-    let wrote = refused .write-refusal .ensures in
-    rw law (left, refl, omega (arith, wrote .0), wrote .1, wrote .2)
+    rw law (rw left at (refused .refuse .ensures))
 
 same-length-2 : tie.Need-same-length-2
 same-length-2 c = search needs
@@ -71,28 +69,27 @@ returns-2 c =
     let told = rows .before .before .before in
     let fed = told .before .before .before .before in
     let put = fed .before .before .before .before in
-    let args = put .before .before .before .before .args in
+    let args = put .before .before .before .args in
     let is = rw (put .put-bar .ensures) at (fed .feed .ensures) in
     let law = fed-accepted (args .held) (args .bar) (fed .feed .result) (is .0) (told .enum-told .given .1) in
-    let wrote = rows .write-rows .ensures in
-    rw (law, ← is .1 .0) (refl, refl, wrote .0, wrote .1, wrote .2)
+    let wrote = rows .print-rows .ensures in
+    rw (law, ← is .1 .0) (refl, refl, wrote .1, written lineRoom _ (args .out .now) (args .at) _ _ (omega arith) (wrote .0))
 
 pub feed-bar-spec : {M : Type 1} → statement M
 feed-bar-spec =
     tie.close
     (tie.spec
-    cast-ordinal
-    add-ordinal
     slice-aggregate-put-bar
     put-bar-requires
     slice-aggregate-feed
     slice-aggregate-feed-2
     feed-requires
     enum-known-verdict
-    write-refusal-requires
+    refuse-requires
     enum-told
-    slice-aggregate-write-rows
-    write-rows-requires
+    cast-ordinal
+    add-ordinal
+    print-rows-requires
     same-length
     returns
     same-length-2
