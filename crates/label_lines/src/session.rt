@@ -81,6 +81,7 @@ fn feed_bar(held: BarBox, bar: Bar, out: &mut [u8], at: usize) -> Stepped
     requires { ⌜ at + lineRoom ≤ length (now out) ⌝ }
     ensures { λ r. ⌜ Takes (fedStep held bar) r (now (out .entry)) at (now (out .exit)) ⌝ }
 {
+    let ordinal = held.count as u64 + 1;
     let mut prices = [0.0; 4];
     put_bar(bar, &mut prices, 0);
     let mut sheet = [0u8; ROW_BYTES];
@@ -89,9 +90,15 @@ fn feed_bar(held: BarBox, bar: Bar, out: &mut [u8], at: usize) -> Stepped
     // a refused feed leaves the box as it was, so that no second one is kept for it
     let after = fed.after;
     match verdict {
-        Verdict::Denied(why) => refuse(after, Stop::By(why), out, at),
+        Verdict::Denied(why) => {
+            let end = print_refusal(ordinal, Stop::By(why), out, at);
+            Stepped {
+                held: after,
+                stops: true,
+                at: end,
+            }
+        }
         Verdict::Accepted => {
-            let ordinal = held.count as u64 + 1;
             let end = print_rows(ordinal, sheet, out, at);
             Stepped {
                 held: after,
