@@ -1,9 +1,6 @@
 // Lines of output, written into a buffer from a place on. Each function answers the place behind what it wrote.
 ghost use mathlib.Core.Path.{_≡_};
-ghost use mathlib.Core.Bool.{cond};
-ghost use mathlib.Core.List.{[]};
 ghost use Prim.Native.Nat.{_+_, _≤_};
-ghost use lib.Dec.{eqb};
 ghost use lib.ListN.{length};
 ghost use Rattle.label_texts.specs.LabelText.{bytesOf};
 ghost use Rattle.output_lines.specs.Output.{numeral, field, pairLine, rowLines, longestRow, longestCount, longestRefusal, lineRoom, goesOn, refusalPart, refusalLine, countLine, Written, Printed};

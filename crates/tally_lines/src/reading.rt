@@ -19,7 +19,7 @@ use text::lines::LINE_FEED;
 use text::read_partial;
 
 // The line that has begun behind the bytes used, the bars read, and whether a line was refused.
-pub struct Gathered {
+pub(crate) struct Gathered {
     pub line: Partial,
     pub used: usize,
     pub bars: usize,

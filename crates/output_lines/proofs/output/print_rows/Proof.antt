@@ -3,7 +3,7 @@ use Prim.Native.Nat.{_+_, _-_, _*_, _≤_}
 use mathlib.Core.Path.{_≡_, refl, sym, _∙_}
 use native.Mathlib.Omega.{arith}
 use borrow.Author.Needs.{needs}
-use lib.ListN.{length, getD, drop, length-map, length-append}
+use lib.ListN.{length, getD, drop, length-append}
 use Rattle.measures.specs.Bar.{overlay}
 use Rattle.measures.proofs.Overlay.{overlay-none}
 use Rattle.recognisers.specs.Number.{recognisers, rowBytes}
