@@ -8,14 +8,14 @@ use borrow.Author.Tests.{ltb-true, ltb-false, lt-ltb}
 use lib.Dec.{ltb}
 use lib.ListN.{length, replicate, length-append}
 use Rattle.measures.specs.Bar.{Bar, barsOf, pricesOf}
-use Rattle.recognisers.specs.declared.call.Refusal.the-variants as refusal
-use Rattle.recognisers.specs.declared.call.Verdict.the-variants.{Accepted, Denied}
+use Rattle.answers.specs.declared.refusals.Refusal.the-variants as refusal
+use Rattle.answers.specs.declared.refusals.Verdict.the-variants.{Accepted, Denied}
 use Rattle.recognisers.specs.Number.{rowBytes, mostBars, places}
-use Rattle.recognisers.specs.Refusal.{firstTrue}
+use Rattle.recognisers.specs.Refusal.{firstTrue, feedTried, feedVerdict}
 use Rattle.recognisers.specs.Threshold.{standardSet}
-use Rattle.bar_box.specs.declared.boxes.BarBox.{BarBox}
+use Rattle.box_record.specs.declared.boxes.BarBox.{BarBox}
 use Rattle.bar_box.specs.Sheet.{rowOf}
-use Rattle.bar_box.specs.Box.{freshBox, takenIn, feedTried, feedVerdict, fedOf, sheetOf}
+use Rattle.bar_box.specs.Box.{freshBox, takenIn, fedOf, sheetOf}
 use Rattle.bar_box.specs.History.{Feed, verdictOn, NoBars}
 use Rattle.bar_box.proofs.SheetLaws.{length-row, rows-one, rows-newest}
 use Rattle.bar_box.proofs.FeedSteps.{accepts, count-after, kept-after, verdict-step, box-step}
@@ -23,9 +23,10 @@ use Rattle.bar_box.proofs.FeedLists.{at-start}
 use Rattle.bar_box.proofs.Demand3.{standard-valid, fresh-none}
 use Rattle.text.specs.declared.line_text.Line.{Line, the-variants.Prices, the-variants.BadShape, the-variants.BadPrice}
 use Rattle.text.specs.LineText.{lineOf}
-use Rattle.text.specs.Lines.{linesOf}
-use Rattle.label_lines.specs.declared.output.Stop.the-variants.{By, Price}
-use Rattle.label_lines.specs.Output.{refusalLine, fedStep, readStep, lineStep, printedOf, outputOf}
+use Rattle.input_lines.specs.Lines.{linesOf}
+use Rattle.output_lines.specs.declared.output.Stop.the-variants.{By, Price}
+use Rattle.output_lines.specs.Output.{refusalLine}
+use Rattle.label_lines.specs.Output.{fedStep, readStep, lineStep, printedOf, outputOf}
 use Rattle.label_lines.specs.History.{newestLines, linesPrint, historyPrints}
 use Rattle.label_lines.proofs.SessionLaws.{fed-refused, fed-accepted}
 

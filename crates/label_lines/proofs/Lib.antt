@@ -1,8 +1,6 @@
 -- What is printed, whatever the reads bring, is what the lines of the input print (Whole), that is the rows over the whole history
 -- (HistoryRows); and laws that the proofs of several functions cite.
 pub mod HistoryRows
-pub mod NumeralLaws
-pub mod OutputLaws
 pub mod SameRows
 pub mod SessionLaws
 pub mod Whole

@@ -10,7 +10,7 @@ use Rattle.measures.specs.Bar.{Bar}
 use Rattle.recognisers.specs.Number.{mostBars}
 use Rattle.text.specs.declared.line_text.Line.{Line, the-variants.Prices, the-variants.BadShape, the-variants.BadPrice}
 use Rattle.text.specs.LineText.{lineOf}
-use Rattle.text.specs.Lines.{linesOf}
+use Rattle.input_lines.specs.Lines.{linesOf}
 use Rattle.label_lines.specs.History.{newestLines, linesPrint, historyPrints}
 use Rattle.label_lines.specs.SameRows.{by8, Same, SameRows}
 use Rattle.label_lines.proofs.HistoryRows.{history-output}

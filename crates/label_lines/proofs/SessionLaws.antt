@@ -12,20 +12,22 @@ use lib.Dec.{ltb, leb, eqb}
 use lib.ListN.{length, take, drop, replicate, length-append, length-take, take-append-drop, drop-of-length-le}
 use lib.Seq.{take-all, take-add, length-take-le}
 use Rattle.measures.specs.Bar.{Bar, pricesOf}
-use Rattle.recognisers.specs.declared.call.Refusal.{Refusal}
-use Rattle.recognisers.specs.declared.call.Verdict.the-variants.{Accepted, Denied}
+use Rattle.answers.specs.declared.refusals.Refusal.{Refusal}
+use Rattle.answers.specs.declared.refusals.Verdict.the-variants.{Accepted, Denied}
 use Rattle.recognisers.specs.Number.{longestLine, rowBytes}
-use Rattle.bar_box.specs.declared.boxes.BarBox.{BarBox}
-use Rattle.bar_box.specs.declared.boxes.Outcome.{Outcome}
+use Rattle.box_record.specs.declared.boxes.BarBox.{BarBox}
+use Rattle.box_record.specs.declared.boxes.Outcome.{Outcome}
 use Rattle.bar_box.specs.Box.{fedOf, sheetOf}
-use Rattle.text.specs.declared.lines.Partial.{Partial}
-use Rattle.text.specs.PriceText.{runOf}
-use Rattle.text.specs.Lines.{lineFeed, pieceEnd, keptLine, content, partialOf}
-use Rattle.text.proofs.LineLaws.{line-kept, kept-kept, content-partial}
-use Rattle.text.proofs.RunLaws.{both, all-pass, run-taken}
-use Rattle.label_lines.specs.declared.output.Stop.the-variants.{By}
+use Rattle.input_lines.specs.declared.lines.Partial.{Partial}
+use Rattle.input_lines.specs.Lines.{runOf}
+use Rattle.input_lines.specs.Lines.{lineFeed, pieceEnd, keptLine, content, partialOf}
+use Rattle.input_lines.proofs.LineLaws.{kept-kept, content-partial}
+use Rattle.text.proofs.LineTextLaws.{line-kept}
+use Rattle.input_lines.proofs.RunLaws.{both, all-pass, run-taken}
+use Rattle.output_lines.specs.declared.output.Stop.the-variants.{By}
 use Rattle.label_lines.specs.declared.session.Session.{Session}
-use Rattle.label_lines.specs.Output.{rowLines, lineRoom, refusedStep, fedStep, lineStep}
+use Rattle.output_lines.specs.Output.{rowLines, lineRoom}
+use Rattle.label_lines.specs.Output.{refusedStep, fedStep, lineStep}
 use Rattle.label_lines.specs.Session.{State, stateOf, sessionOf, ended, grown, byteLeaves, bytePrints, stateAfter, prints, usedOf, endPrints}
 
 -- ---- one behind the other

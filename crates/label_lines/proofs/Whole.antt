@@ -8,8 +8,8 @@ use native.Mathlib.Omega.{arith}
 use borrow.Author.Tests.{eqb-true, ne-eqb}
 use lib.Dec.{eqb}
 use lib.ListN.{length, drop, take-append-drop}
-use Rattle.text.specs.Lines.{lineFeed, linesFrom, keptLine}
-use Rattle.text.proofs.LineLaws.{lines-end, lines-last, lines-feed, lines-byte, kept-kept}
+use Rattle.input_lines.specs.Lines.{lineFeed, linesFrom, keptLine}
+use Rattle.input_lines.proofs.LineLaws.{lines-end, lines-last, lines-feed, lines-byte, kept-kept}
 use Rattle.label_lines.specs.Output.{lineStep, printedOf, outputOf}
 use Rattle.label_lines.specs.Session.{State, freshState, ended, grown, byteLeaves, bytePrints, stateAfter, prints, usedOf, takenBytes, endPrints, readsPrint, partsOf}
 use Rattle.label_lines.proofs.SessionLaws.{step-kept, leaves-append, prints-append, stopped-leaves, stopped-prints, byte-grows, byte-ends, byte-quiet, feed-prints}

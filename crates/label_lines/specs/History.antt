@@ -5,13 +5,13 @@ use mathlib.Core.List.{List, [], _∷_, _++_}
 use lib.Dec.{ltb}
 use lib.ListN.{length}
 use Rattle.measures.specs.Bar.{Bar}
-use Rattle.recognisers.specs.declared.call.Refusal.the-variants as refusal
+use Rattle.answers.specs.declared.refusals.Refusal.the-variants as refusal
 use Rattle.recognisers.specs.Number.{mostBars}
 use Rattle.recognisers.specs.Threshold.{standardSet}
 use Rattle.bar_box.specs.Sheet.{rowOf}
 use Rattle.text.specs.declared.line_text.Line.{Line, the-variants.Prices, the-variants.BadShape, the-variants.BadPrice}
-use Rattle.label_lines.specs.declared.output.Stop.the-variants.{By, Price}
-use Rattle.label_lines.specs.Output.{rowLines, refusalLine}
+use Rattle.output_lines.specs.declared.output.Stop.the-variants.{By, Price}
+use Rattle.output_lines.specs.Output.{rowLines, refusalLine}
 
 -- the lines of a history's newest bar: its ordinal is the history's count, its row is over the whole history
 abbrev pub newestLines : List Bar → List ℕ

@@ -4,12 +4,13 @@ use Prim.Native.Nat.{ℕ}
 use mathlib.Core.List.{List, [], _++_, map}
 use mathlib.Core.Logic.{_⊎_}
 use mathlib.Core.Path.{_≡_}
-use Rattle.recognisers.specs.declared.call.Refusal.the-variants as refusal
+use Rattle.answers.specs.declared.refusals.Refusal.the-variants as refusal
 use Rattle.text.specs.declared.line_text.Line.{Line, the-variants.Prices, the-variants.BadShape, the-variants.BadPrice}
 use Rattle.text.specs.LineText.{lineOf}
-use Rattle.text.specs.Lines.{linesOf}
-use Rattle.label_lines.specs.declared.output.Stop.the-variants.{By, Price}
-use Rattle.label_lines.specs.Output.{refusalLine, outputOf}
+use Rattle.input_lines.specs.Lines.{linesOf}
+use Rattle.output_lines.specs.declared.output.Stop.the-variants.{By, Price}
+use Rattle.output_lines.specs.Output.{refusalLine}
+use Rattle.label_lines.specs.Output.{outputOf}
 use Rattle.label_lines.specs.History.{historyPrints}
 
 -- a line of which it is said no more than 8

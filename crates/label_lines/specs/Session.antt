@@ -6,11 +6,12 @@ use mathlib.Core.List.{List, [], _∷_, _++_}
 use lib.Dec.{ltb, eqb}
 use lib.ListN.{length, take, drop}
 use Rattle.recognisers.specs.Threshold.{standardSet}
-use Rattle.bar_box.specs.declared.boxes.BarBox.{BarBox}
+use Rattle.box_record.specs.declared.boxes.BarBox.{BarBox}
 use Rattle.bar_box.specs.Box.{freshBox}
-use Rattle.text.specs.Lines.{lineFeed, keptLine, content, partialOf}
+use Rattle.input_lines.specs.Lines.{lineFeed, keptLine, content, partialOf}
 use Rattle.label_lines.specs.declared.session.{Session.Session, Absorbed.Absorbed}
-use Rattle.label_lines.specs.Output.{lineRoom, lineStep}
+use Rattle.output_lines.specs.Output.{lineRoom}
+use Rattle.label_lines.specs.Output.{lineStep}
 
 -- the line that has begun, of which the first bytes are kept, the box, and whether a line was refused
 pub record State : Type 0 where

@@ -1,34 +1,31 @@
 // What is held between two reads of an input, and what the bytes of one print.
 ghost use mathlib.Core.Path.{_≡_};
-ghost use mathlib.Core.Bool.{true, false, cond};
-ghost use mathlib.Core.List.{[]};
-ghost use lib.Dec.{leb};
+ghost use mathlib.Core.Bool.{false};
 ghost use Prim.Native.Nat.{_+_, _-_, _≤_};
 ghost use lib.ListN.{length, take};
 ghost use Rattle.measures.specs.Bar.{overlay};
-ghost use Rattle.text.specs.Lines.{content};
-ghost use Rattle.label_lines.specs.Output.{lineRoom, refusalLine, fedStep, lineStep};
+ghost use Rattle.input_lines.specs.Lines.{content};
+ghost use Rattle.output_lines.specs.Output.{lineRoom, lineIn, Written};
+ghost use Rattle.label_lines.specs.Output.{refusedStep, fedStep, lineStep};
 ghost use Rattle.label_lines.specs.Session.{stateOf, sessionOf, freshState, stateAfter, prints, usedOf, takenBytes, absorbedOf, endPrints};
-use crate::output;
-use crate::output::LONGEST_ROW;
-use crate::output::Stop;
+ghost use Rattle.label_lines.specs.SessionSteps.{Takes};
 use bar_box::BarBox;
 use measures::Bar;
 use measures::least;
 use measures::put_bar;
+use output_lines::Stop;
+pub use output_lines::output::ROOM;
+use output_lines::output::print_refusal;
+use output_lines::output::print_rows;
 use recognisers::Refusal;
 use recognisers::Thresholds;
-use recognisers::call::Verdict;
-use recognisers::counts::RECOGNISERS;
+use recognisers::Verdict;
 use recognisers::counts::ROW_BYTES;
 use text::Line;
 use text::Partial;
 use text::lines;
 use text::lines::LINE_FEED;
 use text::read_partial;
-
-// The room for what a line may print: a row for each recogniser.
-pub const ROOM: usize = RECOGNISERS * LONGEST_ROW;
 
 // The line that has begun, the box, and whether a line was refused.
 pub struct Session {
@@ -68,10 +65,10 @@ pub fn begin() -> Session
 
 fn refuse(held: BarBox, stop: Stop, out: &mut [u8], at: usize) -> Stepped
     requires { ⌜ at + lineRoom ≤ length (now out) ⌝ }
-    ensures { λ r. ⌜ (r .held ≡ held) × (r .stops ≡ true) × (r .at ≤ at + lineRoom) × (r .at ≡ at + length (refusalLine (held .count + 1) stop)) × (now (out .exit) ≡ overlay (now (out .entry)) at (refusalLine (held .count + 1) stop)) ⌝ }
+    ensures { λ r. ⌜ Takes (refusedStep held stop) r (now (out .entry)) at (now (out .exit)) ⌝ }
 {
     let ordinal = held.count as u64 + 1;
-    let end = output::write_refusal(ordinal, stop, out, at);
+    let end = print_refusal(ordinal, stop, out, at);
     Stepped {
         held,
         stops: true,
@@ -82,7 +79,7 @@ fn refuse(held: BarBox, stop: Stop, out: &mut [u8], at: usize) -> Stepped
 // Feeds one bar and prints its rows.
 fn feed_bar(held: BarBox, bar: Bar, out: &mut [u8], at: usize) -> Stepped
     requires { ⌜ at + lineRoom ≤ length (now out) ⌝ }
-    ensures { λ r. ⌜ (r .held ≡ fedStep held bar .after) × (r .stops ≡ fedStep held bar .stops) × (r .at ≤ at + lineRoom) × (r .at ≡ at + length (fedStep held bar .printed)) × (now (out .exit) ≡ overlay (now (out .entry)) at (fedStep held bar .printed)) ⌝ }
+    ensures { λ r. ⌜ Takes (fedStep held bar) r (now (out .entry)) at (now (out .exit)) ⌝ }
 {
     let ordinal = held.count as u64 + 1;
     let mut prices = [0.0; 4];
@@ -94,7 +91,7 @@ fn feed_bar(held: BarBox, bar: Bar, out: &mut [u8], at: usize) -> Stepped
     let after = fed.after;
     match verdict {
         Verdict::Denied(why) => {
-            let end = output::write_refusal(ordinal, Stop::By(why), out, at);
+            let end = print_refusal(ordinal, Stop::By(why), out, at);
             Stepped {
                 held: after,
                 stops: true,
@@ -102,7 +99,7 @@ fn feed_bar(held: BarBox, bar: Bar, out: &mut [u8], at: usize) -> Stepped
             }
         }
         Verdict::Accepted => {
-            let end = output::write_rows(ordinal, &sheet, out, at);
+            let end = print_rows(ordinal, sheet, out, at);
             Stepped {
                 held: after,
                 stops: false,
@@ -115,7 +112,7 @@ fn feed_bar(held: BarBox, bar: Bar, out: &mut [u8], at: usize) -> Stepped
 // The end of a line.
 fn step(held: BarBox, line: Partial, out: &mut [u8], at: usize) -> Stepped
     requires { ⌜ at + lineRoom ≤ length (now out) ⌝ }
-    ensures { λ r. ⌜ (r .held ≡ lineStep held (content line) .after) × (r .stops ≡ lineStep held (content line) .stops) × (r .at ≤ at + lineRoom) × (r .at ≡ at + length (lineStep held (content line) .printed)) × (now (out .exit) ≡ overlay (now (out .entry)) at (lineStep held (content line) .printed)) ⌝ }
+    ensures { λ r. ⌜ Takes (lineStep held (content line)) r (now (out .entry)) at (now (out .exit)) ⌝ }
 {
     match read_partial(line) {
         Line::Prices(bar) => feed_bar(held, bar, out, at),
@@ -127,8 +124,9 @@ fn step(held: BarBox, line: Partial, out: &mut [u8], at: usize) -> Stepped
 // Bytes up to the end of a line, or all of them if none ends there.
 fn advance(st: Session, chunk: &[u8], out: &mut [u8], at: usize) -> Absorbed
     requires { ⌜ (st .stopped ≡ false) × (1 ≤ length (now chunk)) × (at + lineRoom ≤ length (now out)) ⌝ }
-    ensures { λ r. ⌜ (1 ≤ r .used) × (r .used ≤ length (now (chunk .entry))) × (usedOf (length (now (out .entry)) - at) (stateOf st) (take (r .used) (now (chunk .entry))) ≡ r .used) ⌝ }
-    ensures { λ r. ⌜ (r .session ≡ sessionOf (stateAfter (stateOf st) (take (r .used) (now (chunk .entry))))) × (r .written ≤ at + lineRoom) × (r .written ≡ at + length (prints (stateOf st) (take (r .used) (now (chunk .entry))))) × (now (out .exit) ≡ overlay (now (out .entry)) at (prints (stateOf st) (take (r .used) (now (chunk .entry))))) ⌝ }
+    ensures used { λ r. ⌜ (1 ≤ r .used) × (r .used ≤ length (now (chunk .entry))) × (usedOf (length (now (out .entry)) - at) (stateOf st) (take (r .used) (now (chunk .entry))) ≡ r .used) ⌝ }
+    ensures session { λ r. ⌜ r .session ≡ sessionOf (stateAfter (stateOf st) (take (r .used) (now (chunk .entry)))) ⌝ }
+    ensures printed { λ r. ⌜ (r .written ≤ at + lineRoom) × Written (now (out .entry)) at (prints (stateOf st) (take (r .used) (now (chunk .entry)))) (now (out .exit)) (r .written) ⌝ }
 {
     let k = lines::piece_end(LINE_FEED, chunk);
     let begun = st.line;
@@ -162,8 +160,9 @@ fn advance(st: Session, chunk: &[u8], out: &mut [u8], at: usize) -> Absorbed
 // Bytes of input, as long as no line is refused and the buffer has room for what a line may print, 1,332 bytes. Where some bytes are
 // lent, no line was refused before and the buffer has that room, at least one byte is used (SessionLaws.used-some).
 pub fn absorb(st: Session, chunk: &[u8], out: &mut [u8]) -> Absorbed
-    ensures { λ r. ⌜ (r ≡ absorbedOf st (now (chunk .entry)) (length (now (out .entry)))) × (r .written ≤ length (now (out .entry))) ⌝ }
-    ensures { λ r. ⌜ now (out .exit) ≡ overlay (now (out .entry)) 0 (prints (stateOf st) (takenBytes (length (now (out .entry))) (stateOf st) (now (chunk .entry)))) ⌝ }
+    ensures answer { λ r. ⌜ r ≡ absorbedOf st (now (chunk .entry)) (length (now (out .entry))) ⌝ }
+    ensures within { λ r. ⌜ r .written ≤ length (now (out .entry)) ⌝ }
+    ensures buffer { λ _. ⌜ now (out .exit) ≡ overlay (now (out .entry)) 0 (prints (stateOf st) (takenBytes (length (now (out .entry))) (stateOf st) (now (chunk .entry)))) ⌝ }
 {
     let room = least(ROOM, out.len());
     let limit = out.len() - room;
@@ -193,8 +192,8 @@ pub fn absorb(st: Session, chunk: &[u8], out: &mut [u8]) -> Absorbed
 
 // The end of the input, where a line that has begun ends. A buffer without the room that a line may need stays as it is.
 pub fn end(st: Session, out: &mut [u8]) -> usize
-    ensures { λ r. ⌜ (r ≤ length (now (out .entry))) × (r ≡ length (cond (leb lineRoom (length (now (out .entry)))) (endPrints (stateOf st)) [])) ⌝ }
-    ensures { λ r. ⌜ now (out .exit) ≡ overlay (now (out .entry)) 0 (cond (leb lineRoom (length (now (out .entry)))) (endPrints (stateOf st)) []) ⌝ }
+    ensures printed { λ r. ⌜ Written (now (out .entry)) 0 (lineIn lineRoom (length (now (out .entry))) (endPrints (stateOf st))) (now (out .exit)) r ⌝ }
+    ensures within { λ r. ⌜ r ≤ length (now (out .entry)) ⌝ }
 {
     let line = st.line;
     let held = st.held;

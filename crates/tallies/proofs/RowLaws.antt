@@ -14,7 +14,7 @@ use Rattle.recognisers.specs.Threshold.{Thresholds}
 use Rattle.bar_box.specs.Sheet.{rowOf, rowsOf}
 use Rattle.tallies.specs.declared.table.TallyRow.{TallyRow}
 use Rattle.tallies.specs.Tally.{freshTally, rowOfCounts, countsOf, cellOf, Shaped, totalOf, addsUp, countBelow, v1In, rowsWith, byPlace, gainRow, counted}
-use Rattle.tallies.specs.Count.{Known}
+use Rattle.tallies.specs.CountSteps.{Known}
 use Rattle.tallies.proofs.PlaceLaws.{length-places, places-kept}
 use Rattle.tallies.proofs.TallyLaws.{row-adds, rows-add, gain-none, counts-gained, gained-same, gained-gained}
 use Rattle.tallies.proofs.CountLaws.{total-counted, with-append}

@@ -6,7 +6,7 @@ ghost use mathlib.Core.Bool.{true};
 ghost use lib.ListN.{length, getD};
 ghost use Rattle.recognisers.specs.Number.{recognisers, labels, rowBytes, mostBars};
 ghost use Rattle.tallies.specs.Tally.{Shaped, addsUp, countsOf, gainRow, gained, counted};
-ghost use Rattle.tallies.specs.Count.{Known, cells, Counted, Fits};
+ghost use Rattle.tallies.specs.CountSteps.{Known, cells, Counted, Fits};
 use crate::table::TallyRow;
 use recognisers::counts::LABELS;
 use recognisers::counts::RECOGNISERS;

@@ -30,7 +30,7 @@ fn wide(count: u32) -> u64
 }
 
 // A row's counts added up, in 64 bits: those of a caller's row may pass 32.
-pub fn total(row: TallyRow) -> u64
+pub(crate) fn total(row: TallyRow) -> u64
     ensures { λ r. ⌜ (r ≡ totalOf (row .counts)) × (length (row .counts) ≡ labels) ⌝ }
 {
     let counts = row.counts;
@@ -44,7 +44,7 @@ pub fn total(row: TallyRow) -> u64
 }
 
 // Whether each row adds up to n.
-pub fn adds_up(tally: [TallyRow; RECOGNISERS], n: u32) -> bool
+pub(crate) fn adds_up(tally: [TallyRow; RECOGNISERS], n: u32) -> bool
     ensures { λ r. ⌜ (r ≡ addsUp n tally) × (Shaped tally) ⌝ }
 {
     let mut all = true;

@@ -9,13 +9,13 @@ use borrow.Author.Tests.{eq-eqb, le-ltb}
 use lib.ListN.{length}
 use lib.Ieee.{Float}
 use Rattle.measures.specs.Bar.{Bar, barsOf, pricesOf}
-use Rattle.recognisers.specs.declared.call.Refusal.{Refusal}
-use Rattle.recognisers.specs.declared.call.Verdict.{Verdict, the-variants.Accepted, the-variants.Denied}
+use Rattle.answers.specs.declared.refusals.Refusal.{Refusal}
+use Rattle.answers.specs.declared.refusals.Verdict.{Verdict, the-variants.Accepted, the-variants.Denied}
 use Rattle.recognisers.specs.Number.{rowBytes, mostBars, places}
-use Rattle.recognisers.specs.Refusal.{badThreshold, tooManyBars, firstTrue, nextAfter}
+use Rattle.recognisers.specs.Refusal.{badThreshold, tooManyBars, firstTrue, nextAfter, feedTried}
 use Rattle.recognisers.specs.Threshold.{validOf}
-use Rattle.bar_box.specs.declared.boxes.BarBox.{BarBox}
-use Rattle.bar_box.specs.Box.{numbered, held, feedTried, takenIn}
+use Rattle.box_record.specs.declared.boxes.BarBox.{BarBox}
+use Rattle.bar_box.specs.Box.{numbered, held, takenIn}
 use Rattle.bar_box.proofs.BoxLaws.{length-laid, taken-append}
 use Rattle.bar_box.proofs.FeedSteps.{fits}
 use Rattle.tallies.specs.declared.table.TallyRow.{TallyRow}

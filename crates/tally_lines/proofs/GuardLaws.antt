@@ -6,7 +6,7 @@ use native.Mathlib.Decide.{decLe}
 use native.Mathlib.Omega.{arith}
 use borrow.Author.Tests.{ltb-true, lt-ltb}
 use lib.Dec.{ltb}
-use Rattle.text.proofs.RunLaws.{both}
+use Rattle.input_lines.proofs.RunLaws.{both}
 
 module _ (used len bars most : ℕ) (going : Bool) where
   abbrev goes : Bool

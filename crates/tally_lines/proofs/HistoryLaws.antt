@@ -4,8 +4,8 @@ use mathlib.Core.List.{List, [], _∷_, _++_}
 use mathlib.Core.Path.{_≡_, sym, _∙_}
 use lib.ListN.{length}
 use Rattle.measures.specs.Bar.{Bar, barsOf, pricesOf}
-use Rattle.recognisers.specs.declared.call.Refusal.the-variants as refusal
-use Rattle.recognisers.specs.declared.call.Verdict.the-variants.{Accepted, Denied}
+use Rattle.answers.specs.declared.refusals.Refusal.the-variants as refusal
+use Rattle.answers.specs.declared.refusals.Verdict.the-variants.{Accepted, Denied}
 use Rattle.recognisers.specs.Number.{mostBars}
 use Rattle.recognisers.specs.Threshold.{standardSet}
 use Rattle.bar_box.proofs.FeedSteps.{count-after, verdict-step}

@@ -10,8 +10,8 @@ use lib.Dec.{eqb}
 use lib.ListN.{length, getD, take}
 use lib.Seq.{take-suc, length-take-le}
 use Rattle.tallies.specs.declared.table.TallyRow.{TallyRow}
-use Rattle.label_lines.specs.Output.{countLine, longestCount}
-use Rattle.label_lines.proofs.OutputLaws.{count-most}
+use Rattle.output_lines.specs.Output.{countLine, longestCount}
+use Rattle.output_lines.proofs.OutputLaws.{count-most}
 use Rattle.tally_lines.specs.Output.{cellLine, cellLines, tallyLines}
 
 pub cell-most : (k c count : ℕ) → length (cellLine k c count) ≤ longestCount

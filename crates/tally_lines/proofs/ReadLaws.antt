@@ -12,15 +12,17 @@ use lib.Seq.{take-add}
 use Rattle.measures.specs.Bar.{Bar}
 use Rattle.text.specs.declared.line_text.Line.{Line, the-variants.Prices, the-variants.BadShape, the-variants.BadPrice}
 use Rattle.text.specs.LineText.{lineOf}
-use Rattle.text.specs.declared.lines.Partial.{Partial}
-use Rattle.text.specs.Lines.{lineFeed, pieceEnd, keptLine, content, partialOf}
-use Rattle.text.proofs.LineLaws.{line-kept, kept-kept, content-partial}
-use Rattle.text.proofs.RunLaws.{all-pass, run-taken}
+use Rattle.input_lines.specs.declared.lines.Partial.{Partial}
+use Rattle.input_lines.specs.Lines.{lineFeed, pieceEnd, keptLine, content, partialOf}
+use Rattle.input_lines.proofs.LineLaws.{kept-kept, content-partial}
+use Rattle.text.proofs.LineTextLaws.{line-kept}
+use Rattle.input_lines.proofs.RunLaws.{all-pass, run-taken}
 use Rattle.label_lines.proofs.SessionLaws.{with-feed}
-use Rattle.label_lines.specs.declared.output.Stop.the-variants.{Going}
-use Rattle.label_lines.specs.Output.{goesOn}
+use Rattle.output_lines.specs.declared.output.Stop.the-variants.{Going}
+use Rattle.output_lines.specs.Output.{goesOn}
 use Rattle.tally_lines.specs.declared.reading.Gathered.{Gathered}
-use Rattle.tally_lines.specs.Session.{Read, afterLine, readFrom, lineBars, lineStop, gatheredOf}
+use Rattle.tally_lines.specs.Session.{Read, afterLine, readFrom, lineBars, lineStop}
+use Rattle.tally_lines.specs.SessionSteps.{gatheredOf}
 
 -- ---- a line of which the first bytes are kept
 kept-same : (bars : List Bar) (a b bytes : List ℕ) → keptLine a ≡ keptLine b → readFrom bars a bytes ≡ readFrom bars b bytes

@@ -12,17 +12,18 @@ use lib.ListN.{length, length-append}
 use Rattle.io.specs.Digits.{glyph, digits}
 use Rattle.measures.specs.Bar.{Bar}
 use Rattle.measures.proofs.Order.{both-ways}
-use Rattle.recognisers.specs.declared.call.Refusal.{Refusal}
-use Rattle.recognisers.specs.declared.call.Refusal.the-variants as refusal
+use Rattle.answers.specs.declared.refusals.Refusal.{Refusal}
+use Rattle.answers.specs.declared.refusals.Refusal.the-variants as refusal
 use Rattle.recognisers.specs.Refusal.{refusalNumber}
 use Rattle.recognisers.specs.Number.{mostBars}
 use Rattle.text.specs.declared.line_text.Line.{Line, the-variants.Prices, the-variants.BadShape, the-variants.BadPrice}
 use Rattle.label_texts.specs.LabelText.{bytesOf}
-use Rattle.text.specs.LineText.{comma, lineOf}
-use Rattle.text.specs.Lines.{lineFeed, linesFrom, linesOf}
-use Rattle.text.proofs.LineLaws.{lines-end, lines-feed, lines-byte}
-use Rattle.label_lines.specs.declared.output.Stop.{Stop, the-variants.Going, the-variants.By, the-variants.Price}
-use Rattle.label_lines.specs.Output.{digitCount, numeral, field, rowLine, rowLines, refusedWord, refusalPart, goesOn, refusalLine}
+use Rattle.input_lines.specs.Lines.{comma}
+use Rattle.text.specs.LineText.{lineOf}
+use Rattle.input_lines.specs.Lines.{lineFeed, linesFrom, linesOf}
+use Rattle.input_lines.proofs.LineLaws.{lines-end, lines-feed, lines-byte}
+use Rattle.output_lines.specs.declared.output.Stop.{Stop, the-variants.Going, the-variants.By, the-variants.Price}
+use Rattle.output_lines.specs.Output.{digitCount, numeral, field, rowLine, rowLines, refusedWord, refusalPart, goesOn, refusalLine}
 use Rattle.label_lines.specs.History.{newestLines, linesPrint, historyPrints}
 use Rattle.label_lines.proofs.HistoryRows.{history-output}
 use Rattle.tally_lines.specs.History.{tallyPrints}

@@ -8,16 +8,16 @@ use lib.Dec.{ltb}
 use lib.ListN.{length, take, drop, take-append-drop}
 use lib.Seq.{take-all}
 use Rattle.measures.specs.Bar.{Bar}
-use Rattle.recognisers.specs.declared.call.Verdict.{Verdict, the-variants.Accepted, the-variants.Denied}
-use Rattle.bar_box.specs.declared.boxes.BarBox.{BarBox}
+use Rattle.answers.specs.declared.refusals.Verdict.{Verdict, the-variants.Accepted, the-variants.Denied}
+use Rattle.box_record.specs.declared.boxes.BarBox.{BarBox}
 use Rattle.recognisers.specs.Refusal.{leaves}
 use Rattle.tallies.specs.declared.table.TallyRow.{TallyRow}
 use Rattle.tallies.specs.declared.feeds.Tallied.{Tallied}
 use Rattle.tallies.specs.Feed.{talliedOf}
-use Rattle.text.specs.Lines.{keptLine, content, partialOf}
-use Rattle.text.proofs.LineLaws.{content-partial}
-use Rattle.label_lines.specs.declared.output.Stop.{Stop, the-variants.Going, the-variants.By, the-variants.Price}
-use Rattle.label_lines.specs.Output.{goesOn}
+use Rattle.input_lines.specs.Lines.{keptLine, content, partialOf}
+use Rattle.input_lines.proofs.LineLaws.{content-partial}
+use Rattle.output_lines.specs.declared.output.Stop.{Stop, the-variants.Going, the-variants.By, the-variants.Price}
+use Rattle.output_lines.specs.Output.{goesOn}
 use Rattle.tally_lines.specs.declared.session.Session.{Session}
 use Rattle.tally_lines.specs.Session.{Read, State, readFrom, barFeed, fedAll, settledBy, settled, stateAfter, stateOf, sessionOf}
 use Rattle.tally_lines.proofs.ReadLaws.{behind, read-append, read-after, kept-again}

@@ -9,18 +9,18 @@ use borrow.Author.Tests.{ltb-true, ltb-false, eqb-true, ne-eqb}
 use lib.Dec.{ltb, eqb}
 use lib.ListN.{length, length-append}
 use Rattle.measures.specs.Bar.{Bar}
-use Rattle.recognisers.specs.declared.call.Refusal.the-variants as refusal
-use Rattle.recognisers.specs.declared.call.Verdict.{Verdict, the-variants.Accepted, the-variants.Denied}
+use Rattle.answers.specs.declared.refusals.Refusal.the-variants as refusal
+use Rattle.answers.specs.declared.refusals.Verdict.{Verdict, the-variants.Accepted, the-variants.Denied}
 use Rattle.recognisers.specs.Number.{mostBars}
 use Rattle.recognisers.specs.Refusal.{leaves}
 use Rattle.tallies.specs.Tally.{freshTally}
 use Rattle.text.specs.declared.line_text.Line.{Line, the-variants.Prices, the-variants.BadShape, the-variants.BadPrice}
 use Rattle.text.specs.LineText.{lineOf}
-use Rattle.text.specs.Lines.{lineFeed, linesFrom, keptLine}
-use Rattle.text.proofs.LineLaws.{lines-end, lines-last, lines-feed, lines-byte}
-use Rattle.label_lines.specs.Output.{refusalLine}
+use Rattle.input_lines.specs.Lines.{lineFeed, linesFrom, keptLine}
+use Rattle.input_lines.proofs.LineLaws.{lines-end, lines-last, lines-feed, lines-byte}
+use Rattle.output_lines.specs.Output.{refusalLine}
 use Rattle.label_lines.specs.History.{linesPrint}
-use Rattle.label_lines.specs.declared.output.Stop.the-variants.{Going, By}
+use Rattle.output_lines.specs.declared.output.Stop.the-variants.{Going, By}
 use Rattle.label_lines.proofs.HistoryRows.{boxOf}
 use Rattle.tally_lines.specs.Output.{cellLines, tallyLines}
 use Rattle.tally_lines.specs.Session.{Read, State, afterLine, readFrom, fedAll, settled, stateAfter, readsLeave, closed, printed, endPrints, freshState}

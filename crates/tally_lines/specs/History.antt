@@ -9,7 +9,7 @@ use Rattle.tallies.specs.Tally.{freshTally, gained}
 use Rattle.tallies.specs.History.{barsWith}
 use Rattle.text.specs.declared.line_text.Line.{Line}
 use Rattle.text.specs.LineText.{lineOf}
-use Rattle.text.specs.Lines.{linesOf}
+use Rattle.input_lines.specs.Lines.{linesOf}
 use Rattle.label_lines.specs.History.{linesPrint}
 use Rattle.tally_lines.specs.Output.{tallyLines}
 

@@ -5,7 +5,7 @@ use mathlib.Core.List.{List, [], _∷_, _++_}
 use lib.Dec.{eqb}
 use Rattle.recognisers.specs.Number.{recognisers, labels}
 use Rattle.tallies.specs.declared.table.TallyRow.{TallyRow}
-use Rattle.label_lines.specs.Output.{countLine, longestCount}
+use Rattle.output_lines.specs.Output.{countLine, longestCount}
 
 -- a cell's line, if it isn't zero
 abbrev pub cellLine : ℕ → ℕ → ℕ → List ℕ

@@ -10,9 +10,10 @@ use Rattle.measures.specs.Bar.{Bar}
 use Rattle.recognisers.specs.Number.{mostBars}
 use Rattle.text.specs.declared.line_text.Line.{Line, the-variants.Prices}
 use Rattle.text.specs.LineText.{lineOf}
-use Rattle.text.specs.Lines.{lineFeed, linesOf}
-use Rattle.label_lines.specs.declared.output.Stop.{Stop}
-use Rattle.label_lines.specs.Output.{goesOn, refusalLine, outputOf as labelsOutput}
+use Rattle.input_lines.specs.Lines.{lineFeed, linesOf}
+use Rattle.output_lines.specs.declared.output.Stop.{Stop}
+use Rattle.output_lines.specs.Output.{goesOn, refusalLine}
+use Rattle.label_lines.specs.Output.{outputOf as labelsOutput}
 use Rattle.tally_lines.specs.Output.{tallyLines}
 use Rattle.tally_lines.specs.History.{historyTally, outputOf}
 

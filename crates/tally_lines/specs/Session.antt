@@ -6,11 +6,11 @@ use mathlib.Core.List.{List, [], _∷_, _++_}
 use lib.Dec.{eqb}
 use lib.ListN.{length, replicate}
 use Rattle.measures.specs.Bar.{Bar, pricesOf}
-use Rattle.recognisers.specs.declared.call.Refusal.the-variants as refusal
-use Rattle.recognisers.specs.declared.call.Verdict.{Verdict, the-variants.Accepted, the-variants.Denied}
+use Rattle.answers.specs.declared.refusals.Refusal.the-variants as refusal
+use Rattle.answers.specs.declared.refusals.Verdict.{Verdict, the-variants.Accepted, the-variants.Denied}
 use Rattle.recognisers.specs.Number.{rowBytes}
 use Rattle.recognisers.specs.Threshold.{standardSet}
-use Rattle.bar_box.specs.declared.boxes.BarBox.{BarBox}
+use Rattle.box_record.specs.declared.boxes.BarBox.{BarBox}
 use Rattle.bar_box.specs.Box.{freshBox}
 use Rattle.recognisers.specs.Refusal.{leaves}
 use Rattle.bar_box.specs.History.{Feed}
@@ -20,10 +20,9 @@ use Rattle.tallies.specs.Tally.{freshTally}
 use Rattle.tallies.specs.Feed.{lent, talliedOf}
 use Rattle.text.specs.declared.line_text.Line.{Line, the-variants.Prices, the-variants.BadShape, the-variants.BadPrice}
 use Rattle.text.specs.LineText.{lineOf}
-use Rattle.text.specs.Lines.{lineFeed, keptLine, content, partialOf}
-use Rattle.label_lines.specs.declared.output.Stop.{Stop, the-variants.Going, the-variants.By, the-variants.Price}
-use Rattle.label_lines.specs.Output.{goesOn, refusalLine}
-use Rattle.tally_lines.specs.declared.reading.Gathered.{Gathered}
+use Rattle.input_lines.specs.Lines.{lineFeed, keptLine, content, partialOf}
+use Rattle.output_lines.specs.declared.output.Stop.{Stop, the-variants.Going, the-variants.By, the-variants.Price}
+use Rattle.output_lines.specs.Output.{goesOn, refusalLine}
 use Rattle.tally_lines.specs.declared.session.Session.{Session}
 use Rattle.tally_lines.specs.Output.{tallyLines}
 
@@ -119,7 +118,3 @@ closed s = cond (eqb (length (s .line)) 0) s (stateAfter s (lineFeed ∷ []))
 
 abbrev pub endPrints : State → List ℕ
 endPrints s = printed (closed s)
-
--- what reading so many bytes gathers, behind n bars
-abbrev pub gatheredOf : ℕ → ℕ → Read → Gathered
-gatheredOf used n read = record { line = partialOf (read .line); used = used; bars = n + length (read .bars); stop = read .stop }

@@ -1,11 +1,9 @@
 // The lines of a tally, written into a buffer from a place on. Each function answers the place behind what it wrote.
-ghost use mathlib.Core.Path.{_≡_};
 ghost use Prim.Native.Nat.{_+_, _≤_};
 ghost use lib.ListN.{length};
-ghost use Rattle.measures.specs.Bar.{overlay};
-ghost use Rattle.label_lines.specs.Output.{longestCount};
+ghost use Rattle.output_lines.specs.Output.{longestCount, Written};
 ghost use Rattle.tally_lines.specs.Output.{cellLine, cellLines, tallyLines, rowRoom, tallyRoom};
-use label_lines::output::print_count;
+use output_lines::output::print_count;
 use recognisers::counts::LABELS;
 use recognisers::counts::RECOGNISERS;
 use tallies::TallyRow;
@@ -13,7 +11,7 @@ use tallies::TallyRow;
 // The line of one cell, if it isn't zero.
 fn write_cell(k: u64, c: u8, count: u64, out: &mut [u8], at: usize) -> usize
     requires { ⌜ at + longestCount ≤ length (now out) ⌝ }
-    ensures { λ r. ⌜ (r ≤ at + longestCount) × (r ≡ at + length (cellLine k c count)) × (now (out .exit) ≡ overlay (now (out .entry)) at (cellLine k c count)) ⌝ }
+    ensures { λ r. ⌜ (r ≤ at + longestCount) × Written (now (out .entry)) at (cellLine k c count) (now (out .exit)) r ⌝ }
 {
     if count == 0 {
         at
@@ -25,7 +23,7 @@ fn write_cell(k: u64, c: u8, count: u64, out: &mut [u8], at: usize) -> usize
 // The lines of a recogniser's counts.
 fn write_cells(k: u64, row: TallyRow, out: &mut [u8], at: usize) -> usize
     requires { ⌜ at + rowRoom ≤ length (now out) ⌝ }
-    ensures { λ r. ⌜ (r ≤ at + rowRoom) × (r ≡ at + length (cellLines k 0 (row .counts))) × (now (out .exit) ≡ overlay (now (out .entry)) at (cellLines k 0 (row .counts))) ⌝ }
+    ensures { λ r. ⌜ (r ≤ at + rowRoom) × Written (now (out .entry)) at (cellLines k 0 (row .counts)) (now (out .exit)) r ⌝ }
 {
     let counts = row.counts;
     let mut c = 0usize;
@@ -41,7 +39,7 @@ fn write_cells(k: u64, row: TallyRow, out: &mut [u8], at: usize) -> usize
 // The lines of a table, from the buffer's front on.
 pub(crate) fn write_tally(tally: [TallyRow; RECOGNISERS], out: &mut [u8]) -> usize
     requires { ⌜ tallyRoom ≤ length (now out) ⌝ }
-    ensures { λ r. ⌜ (r ≤ tallyRoom) × (r ≡ length (tallyLines 0 tally)) × (now (out .exit) ≡ overlay (now (out .entry)) 0 (tallyLines 0 tally)) ⌝ }
+    ensures { λ r. ⌜ (r ≤ tallyRoom) × Written (now (out .entry)) 0 (tallyLines 0 tally) (now (out .exit)) r ⌝ }
 {
     let mut k = 0usize;
     let mut place = 0usize;

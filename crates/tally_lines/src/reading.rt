@@ -5,11 +5,12 @@ ghost use Prim.Native.Nat.{_+_, _*_, _≤_};
 ghost use lib.ListN.{length, take};
 ghost use Rattle.measures.specs.Bar.{overlay, pricesOf};
 ghost use Rattle.text.specs.LineText.{lineOf};
-ghost use Rattle.text.specs.Lines.{content, partialOf};
-ghost use Rattle.tally_lines.specs.Session.{readFrom, lineBars, lineStop, gatheredOf};
-use label_lines::Stop;
-use label_lines::output::goes_on;
+ghost use Rattle.input_lines.specs.Lines.{content, partialOf};
+ghost use Rattle.tally_lines.specs.Session.{readFrom, lineBars, lineStop};
+ghost use Rattle.tally_lines.specs.SessionSteps.{gatheredOf};
 use measures::put_bar;
+use output_lines::Stop;
+use output_lines::output::goes_on;
 use recognisers::Refusal;
 use text::Line;
 use text::Partial;
@@ -18,7 +19,7 @@ use text::lines::LINE_FEED;
 use text::read_partial;
 
 // The line that has begun behind the bytes used, the bars read, and whether a line was refused.
-pub struct Gathered {
+pub(crate) struct Gathered {
     pub line: Partial,
     pub used: usize,
     pub bars: usize,

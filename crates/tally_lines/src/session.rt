@@ -1,27 +1,26 @@
 // What is held between two reads of an input, and what its end prints.
 ghost use mathlib.Core.Path.{_≡_};
-ghost use mathlib.Core.Bool.{true, cond};
+ghost use mathlib.Core.Bool.{true};
 ghost use mathlib.Core.List.{[]};
 ghost use Prim.Native.Nat.{_+_, _*_, _≤_, _<_};
-ghost use lib.Dec.{leb};
 ghost use lib.ListN.{length, take};
-ghost use Rattle.measures.specs.Bar.{barsOf, overlay};
+ghost use Rattle.measures.specs.Bar.{barsOf};
 ghost use Rattle.recognisers.specs.Number.{mostBars};
-ghost use Rattle.text.specs.Lines.{content, partialOf};
-ghost use Rattle.label_lines.specs.Output.{goesOn};
+ghost use Rattle.input_lines.specs.Lines.{content, partialOf};
+ghost use Rattle.output_lines.specs.Output.{goesOn, lineIn, Written};
 ghost use Rattle.tally_lines.specs.Output.{tallyRoom};
 ghost use Rattle.tally_lines.specs.Session.{stateOf, sessionOf, freshState, fedAll, settledBy, stateAfter, printed, closed, endPrints};
 use crate::output;
 use crate::reading;
 use crate::reading::Gathered;
 use bar_box::BarBox;
-use label_lines::Stop;
-use label_lines::output::LONGEST_COUNT;
-use label_lines::output::goes_on;
-use label_lines::output::print_refusal;
 use measures::least;
+use output_lines::Stop;
+use output_lines::output::LONGEST_COUNT;
+use output_lines::output::goes_on;
+use output_lines::output::print_refusal;
 use recognisers::Thresholds;
-use recognisers::call::Verdict;
+use recognisers::Verdict;
 use recognisers::counts::LABELS;
 use recognisers::counts::MOST_BARS;
 use recognisers::counts::RECOGNISERS;
@@ -184,7 +183,7 @@ fn close(st: Session) -> Session
 // The tally, or the refusal.
 fn print(st: Session, out: &mut [u8]) -> usize
     requires { ⌜ tallyRoom ≤ length (now out) ⌝ }
-    ensures { λ r. ⌜ (r ≤ length (now (out .entry))) × (r ≡ length (printed (stateOf st))) × (now (out .exit) ≡ overlay (now (out .entry)) 0 (printed (stateOf st))) ⌝ }
+    ensures { λ r. ⌜ (r ≤ length (now (out .entry))) × Written (now (out .entry)) 0 (printed (stateOf st)) (now (out .exit)) r ⌝ }
 {
     let held = st.held;
     let ordinal = held.count as u64 + 1;
@@ -194,14 +193,14 @@ fn print(st: Session, out: &mut [u8]) -> usize
         let tally = st.tally;
         output::write_tally(tally, out)
     } else {
-        print_refusal(ordinal, stop, out)
+        print_refusal(ordinal, stop, out, 0)
     }
 }
 
 // What the input's end prints. A buffer without the room that a tally may need, 39,672 bytes, stays as it is.
 pub fn end(st: Session, out: &mut [u8]) -> usize
-    ensures { λ r. ⌜ (r ≤ length (now (out .entry))) × (r ≡ length (cond (leb tallyRoom (length (now (out .entry)))) (endPrints (stateOf st)) [])) ⌝ }
-    ensures { λ r. ⌜ now (out .exit) ≡ overlay (now (out .entry)) 0 (cond (leb tallyRoom (length (now (out .entry)))) (endPrints (stateOf st)) []) ⌝ }
+    ensures printed { λ r. ⌜ Written (now (out .entry)) 0 (lineIn tallyRoom (length (now (out .entry))) (endPrints (stateOf st))) (now (out .exit)) r ⌝ }
+    ensures within { λ r. ⌜ r ≤ length (now (out .entry)) ⌝ }
 {
     if ROOM <= out.len() {
         let last = close(st);

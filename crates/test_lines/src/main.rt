@@ -4,8 +4,8 @@
 // The cases are, in turn: good lines and other numbers of fields; a field that is bad alone, and two and more; lengths; signs; spaces;
 // other ways to write a number; nan; points; digits; zeros; bytes that are no text; and 8 beside 9, each place and 80 and 81 bytes.
 //
-// Then the labels' texts, the limits of a session and tallies that a caller filled, a line each. Every function is proved safe and ending; what is written is seen in
-// the file stdout, which the gate holds this program to.
+// Then the labels' texts, the limits of a session, tallies that a caller filled and refused inputs of the tally program, a line each. Every
+// function is proved safe and ending; what is written is seen in the file stdout, which the gate holds this program to.
 ghost use Prim.Native.Nat.{_≤_, _<_};
 ghost use lib.ListN.{length};
 
@@ -14,11 +14,12 @@ mod limits;
 mod print;
 mod run;
 mod tally;
+mod tally_runs;
 
 use libc::STDIN_FILENO;
 use measures::least;
-use recognisers::call::Verdict;
-use recognisers::call::refusal_number;
+use recognisers::Verdict;
+use recognisers::refusals::refusal_number;
 use run::first;
 use text::Line;
 use text::line_text::line_verdict;
@@ -90,4 +91,5 @@ fn main() {
     labels::write();
     limits::write();
     tally::write();
+    tally_runs::write();
 }

@@ -1,6 +1,3 @@
--- Laws that the proofs of several functions, and the crates above, cite.
-pub mod RunLaws
-pub mod PartLaws
-pub mod DigitLaws
-pub mod LineLaws
+-- That refusals 8 and 9 refuse the lines that 8 did (SameLines), and laws that the proofs of several functions cite.
+pub mod LineTextLaws
 pub mod SameLines

@@ -10,16 +10,16 @@ use lib.Dec.{ltb, leb, eqb}
 use lib.Ieee.{nan}
 use lib.ListN.{length, getD, take}
 use Rattle.measures.specs.Bar.{Bar, barOf, noBar}
-use Rattle.recognisers.specs.declared.call.Refusal.the-variants as refusal
-use Rattle.recognisers.specs.declared.call.Verdict.{Verdict, the-variants.Accepted, the-variants.Denied}
+use Rattle.answers.specs.declared.refusals.Refusal.the-variants as refusal
+use Rattle.answers.specs.declared.refusals.Verdict.{Verdict, the-variants.Accepted, the-variants.Denied}
 use Rattle.recognisers.specs.Number.{longestLine}
 use Rattle.recognisers.specs.Refusal.{firstTrue}
-use Rattle.text.specs.declared.price_text.Price.{Price, the-variants.Value, the-variants.Bad}
+use Rattle.price_texts.specs.declared.price_text.Price.{Price, the-variants.Value, the-variants.Bad}
 use Rattle.text.specs.declared.line_text.Line.{Line, the-variants.Prices, the-variants.BadShape, the-variants.BadPrice}
 use Rattle.text.specs.LineText.{pricesIn, isPrice, allPrices, pricesBefore, leftmostBad, lineVerdict, valueOf, valueAt, answerTo, saidOf, lineOf, placesIn}
 use Rattle.text.specs.SameLines.{fourOf, Leftmost, SameLines}
-use Rattle.text.proofs.RunLaws.{both}
-use Rattle.text.proofs.LineLaws.{said-verdict}
+use Rattle.input_lines.proofs.RunLaws.{both}
+use Rattle.text.proofs.LineTextLaws.{said-verdict}
 
 -- ---- fields
 

@@ -1,4 +1,2 @@
-pub mod PriceText
 pub mod LineText
-pub mod Lines
 pub mod SameLines

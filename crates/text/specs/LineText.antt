@@ -6,18 +6,15 @@ use lib.Dec.{eqb}
 use lib.ListN.{length, getD}
 use lib.Ieee.{Float, nan}
 use Rattle.measures.specs.Bar.{barOf}
-use Rattle.recognisers.specs.declared.call.Refusal.the-variants as refusal
-use Rattle.recognisers.specs.declared.call.Verdict.{Verdict, the-variants.Accepted, the-variants.Denied}
+use Rattle.answers.specs.declared.refusals.Refusal.the-variants as refusal
+use Rattle.answers.specs.declared.refusals.Verdict.{Verdict, the-variants.Accepted, the-variants.Denied}
 use Rattle.recognisers.specs.Refusal.{refusalNumber, badShape, badPrice, firstTrue, verdictNumber}
-use Rattle.text.specs.declared.price_text.Price.{Price, the-variants.Value, the-variants.Bad}
+use Rattle.price_texts.specs.declared.price_text.Price.{Price, the-variants.Value, the-variants.Bad}
 use Rattle.text.specs.declared.line_text.Line.{Line, the-variants.Prices, the-variants.BadShape, the-variants.BadPrice}
-use Rattle.text.specs.PriceText.{priceOf}
-use Rattle.text.specs.Lines.{piecesOf}
+use Rattle.price_texts.specs.PriceText.{priceOf}
+use Rattle.input_lines.specs.Lines.{comma, piecesOf}
 
 -- ---- fields
-
-abbrev pub comma : ℕ
-comma = 44
 
 -- the fields of a line, with commas between them, each read as a price
 abbrev pub pricesIn : List ℕ → List Price

@@ -9,11 +9,11 @@ use lib.Dec.{leb, eqb}
 use lib.ListN.{length, getD, take}
 use lib.Ieee.{nan}
 use Rattle.measures.specs.Bar.{Bar}
-use Rattle.recognisers.specs.declared.call.Refusal.the-variants as refusal
-use Rattle.recognisers.specs.declared.call.Verdict.the-variants.{Accepted, Denied}
+use Rattle.answers.specs.declared.refusals.Refusal.the-variants as refusal
+use Rattle.answers.specs.declared.refusals.Verdict.the-variants.{Accepted, Denied}
 use Rattle.recognisers.specs.Number.{longestLine}
 use Rattle.recognisers.specs.Refusal.{badShape, badPrice}
-use Rattle.text.specs.declared.price_text.Price.{Price, the-variants.Value, the-variants.Bad}
+use Rattle.price_texts.specs.declared.price_text.Price.{Price, the-variants.Value, the-variants.Bad}
 use Rattle.text.specs.declared.line_text.Line.the-variants.{Prices}
 use Rattle.text.specs.LineText.{pricesIn, allPrices, lineOf, verdictOf, placesIn}
 

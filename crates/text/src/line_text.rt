@@ -2,18 +2,19 @@
 ghost use mathlib.Core.Path.{_≡_};
 ghost use mathlib.Core.List.{[], _∷_};
 ghost use Rattle.recognisers.specs.Refusal.{verdictNumber};
-ghost use Rattle.text.specs.Lines.{piecesOf, content};
-ghost use Rattle.text.specs.LineText.{comma, fieldsLine, saidOf, lineOf, verdictIn, badPlaces, verdictOf, placesIn};
-use crate::lines::KEPT_BYTES;
-use crate::lines::LONGEST_LINE;
-use crate::lines::Partial;
-use crate::lines::piece_end;
-use crate::price_text::Price;
-use crate::price_text::read_price;
+ghost use Rattle.input_lines.specs.Lines.{comma, piecesOf, content};
+ghost use Rattle.text.specs.LineText.{fieldsLine, saidOf, lineOf, verdictIn, badPlaces, verdictOf, placesIn};
+use input_lines::lines::COMMA;
+use input_lines::lines::KEPT_BYTES;
+use input_lines::lines::LONGEST_LINE;
+use input_lines::lines::Partial;
+use input_lines::lines::piece_end;
 use measures::Bar;
 use measures::least;
-use recognisers::call::Refusal;
-use recognisers::call::Verdict;
+use price_texts::Price;
+use price_texts::read_price;
+use recognisers::Refusal;
+use recognisers::Verdict;
 
 // What a line says: a bar; that it is longer than 80 bytes or has another number of fields than four, which is refusal 8; or, with
 // refusal 9, the place, 1 to 4, of the leftmost field that is no price.
@@ -22,9 +23,6 @@ pub enum Line {
     BadShape,
     BadPrice(u8),
 }
-
-// What stands between two fields.
-pub const COMMA: u8 = 44;
 
 // The line that has these four fields, read as prices.
 fn four(open: Price, close: Price, high: Price, low: Price) -> Line

@@ -11,7 +11,7 @@ use Rattle.labels.proofs.finish.Tie as tie
 slice-aggregate-write-all : tie.Need-slice-aggregate-write-all
 slice-aggregate-write-all c =
     let call = c .before .before .end in
-    let within : call .result ≤ length (call .last .1 .0) = omega (arith, call .ensures .0 .0, call .kept .1 .0) in
+    let within : call .result ≤ length (call .last .1 .0) = omega (arith, call .ensures .1, call .kept .1 .0) in
     sym (length-take-le (call .result) (call .last .1 .0) within)
 
 pub finish-spec : {M : Type 1} → statement M

@@ -3,7 +3,7 @@ use Prim.Native.Nat.{_≤_}
 use native.Mathlib.Omega.{arith}
 use borrow.Author.Needs.{needs}
 use borrow.Author.Tests.{ltb-true}
-use Rattle.text.proofs.RunLaws.{both}
+use Rattle.input_lines.proofs.RunLaws.{both}
 use Rattle.labels.proofs.main.Statement.{statement}
 use Rattle.labels.proofs.main.Tie as tie
 

@@ -8,8 +8,8 @@ use borrow.Author.Needs.{needs}
 use borrow.Author.Tests.{ltb-true, not-true}
 use lib.ListN.{length, take, drop, length-drop}
 use lib.Seq.{length-take-le}
-use Rattle.text.proofs.PartLaws.{to-end}
-use Rattle.text.proofs.RunLaws.{both}
+use Rattle.input_lines.proofs.PartLaws.{to-end}
+use Rattle.input_lines.proofs.RunLaws.{both}
 use Rattle.label_lines.specs.declared.session.Absorbed.{Absorbed}
 use Rattle.label_lines.specs.Session.{State, usedOf}
 use Rattle.label_lines.proofs.SessionLaws.{used-some, used-most}
@@ -60,7 +60,7 @@ array-share-prefix-out c = search needs
 slice-aggregate-write-all : tie.Need-slice-aggregate-write-all Inv-loop μ-loop
 slice-aggregate-write-all c =
     let call = c .before .before .before .absorb in
-    let within : call .result .written ≤ length (call .last .1 .1 .0) = omega (arith, call .ensures .0 .1, call .kept .1 .1 .0) in
+    let within : call .result .written ≤ length (call .last .1 .1 .0) = omega (arith, call .ensures .1 .0, call .kept .1 .1 .0) in
     sym (length-take-le (call .result .written) (call .last .1 .1 .0) within)
 
 write-all-requires : tie.Need-write-all-requires Inv-loop μ-loop
@@ -73,7 +73,7 @@ add-at c =
     let inv = loop .inv in
     let chunk = at-loop .before .before .before .before .args .chunk .now in
     let call = c .before .before .before .before .before .before .absorb in
-    let most = within chunk (loop .at) (call .result .used) (inv .0) _ _ (ap (λ (a : Absorbed). a .used) (call .ensures .0 .0)) in
+    let most = within chunk (loop .at) (call .result .used) (inv .0) _ _ (ap (λ (a : Absorbed). a .used) (call .ensures .0)) in
     search needs
 
 loop-less : tie.Need-loop-less Inv-loop μ-loop
@@ -84,10 +84,10 @@ loop-less c =
     let inv = loop .inv in
     let chunk = at-loop .before .before .before .before .args .chunk .now in
     let call = c .before .before .before .before .before .before .absorb in
-    let most = within chunk (loop .at) (call .result .used) (inv .0) _ _ (ap (λ (a : Absorbed). a .used) (call .ensures .0 .0)) in
+    let most = within chunk (loop .at) (call .result .used) (inv .0) _ _ (ap (λ (a : Absorbed). a .used) (call .ensures .0)) in
     let test = both _ _ (at-loop-in .loop-test .taken) in
     let inside = ltb-true (loop .at) (length chunk) (test .0) in
-    let used = ap (λ (a : Absorbed). a .used) (call .ensures .0 .0) in
+    let used = ap (λ (a : Absorbed). a .used) (call .ensures .0) in
     let some : 1 ≤ call .result .used = rw used (used-some _ _ _ (inv .2 (test .1)) (rest-some chunk (loop .at) inside) (omega (arith, inv .1))) in
     omega (arith, some, most, inside)
 
@@ -98,7 +98,7 @@ loop-again c =
     let inv = loop .inv in
     let chunk = at-loop .before .before .before .before .args .chunk .now in
     let call = c .before .before .before .before .before .before .absorb in
-    let most = within chunk (loop .at) (call .result .used) (inv .0) _ _ (ap (λ (a : Absorbed). a .used) (call .ensures .0 .0)) in
+    let most = within chunk (loop .at) (call .result .used) (inv .0) _ _ (ap (λ (a : Absorbed). a .used) (call .ensures .0)) in
     (most, call .kept .1 .1 .0 ∙ inv .1, λ e. not-true (call .result .session .stopped) (both (c .before .before .write-all .result) (not (call .result .session .stopped)) e .1))
 
 returns : tie.Need-returns Inv-loop μ-loop

@@ -5,14 +5,15 @@ use mathlib.Core.List.{[], _++_, append-nil}
 use mathlib.Core.Path.{_≡_, refl, sym, ap, _∙_}
 use native.Mathlib.Omega.{arith}
 use borrow.Author.Needs.{needs}
-use lib.ListN.{length, take, drop, length-map, length-take, length-drop, length-append}
+use lib.ListN.{length, take, drop, length-map, length-take, length-drop}
 use lib.Seq.{take-all}
-use Rattle.measures.specs.Bar.{overlay}
-use Rattle.measures.proofs.Overlay.{overlay-none, overlay-more, length-overlay}
+use Rattle.measures.proofs.Overlay.{overlay-none, length-overlay}
+use Rattle.output_lines.specs.Output.{Written}
+use Rattle.output_lines.proofs.OutputLaws.{written-on}
 use Rattle.recognisers.specs.Number.{longestLine}
-use Rattle.text.specs.Lines.{content, keptLine, partialOf}
-use Rattle.text.proofs.LineLaws.{content-partial}
-use Rattle.text.proofs.PartLaws.{to-end}
+use Rattle.input_lines.specs.Lines.{content, keptLine, partialOf}
+use Rattle.input_lines.proofs.LineLaws.{content-partial}
+use Rattle.input_lines.proofs.PartLaws.{to-end}
 use Rattle.label_lines.specs.declared.session.Session.{Session}
 use Rattle.label_lines.specs.Session.{State, stateOf, sessionOf, stateAfter, prints, usedOf}
 use Rattle.label_lines.proofs.SessionLaws.{goes-on, rest-stays, used-all, turn-leaves, turn-prints, turn-used, state-session, session-state}
@@ -25,8 +26,7 @@ Inv-loop chunk out₀ room limit session₀ used₀ written₀ out session used 
     × (written ≤ length out₀)
     × (length out ≡ length out₀)
     × (session ≡ sessionOf (stateAfter (stateOf session₀) (take used chunk)))
-    × (written ≡ length (prints (stateOf session₀) (take used chunk)))
-    × (out ≡ overlay out₀ 0 (prints (stateOf session₀) (take used chunk)))
+    × Written out₀ 0 (prints (stateOf session₀) (take used chunk)) out written
     × (usedOf (length out₀) (stateOf session₀) (take used chunk) ≡ used)
 
 abbrev μ-loop : tie.MeasureT-loop
@@ -49,7 +49,7 @@ unfolding stateAfter prints usedOf
 loop-holds c =
     let args = c .before .before .before .before .before .before .before .args in
     let st : Session = record { line = c .before .extend .result; held = args .st .held; stopped = args .st .stopped } in
-    (omega arith, omega arith, refl, session-state st _ (c .before .extend .ensures), refl, sym (overlay-none (args .out .now) 0), refl)
+    (omega arith, omega arith, refl, session-state st _ (c .before .extend .ensures), (refl, sym (overlay-none (args .out .now) 0)), refl)
 
 sub-advance : tie.Need-sub-advance Inv-loop μ-loop
 sub-advance c = search needs
@@ -102,12 +102,13 @@ loop-again c =
     let prints-on = turn-prints s (stateOf (loop .session)) chunk (loop .used) (turn .result .used) here in
     let before = prints s (take (loop .used) chunk) in
     let more = prints (stateOf (loop .session)) (take (turn .result .used) (drop (loop .used) chunk)) in
-    let left : length (loop .out) - loop .written ≡ length (args .out .now) - length before = omega (arith, inv .2, inv .4) in
-    let used-on = turn-used s (stateOf (loop .session)) chunk (loop .used) (turn .result .used) here (length (args .out .now)) (inv .0) (inv .6) (rw left at (did .0 .2)) in
-    let room-left : loop .written + length more ≤ length (args .out .now) = omega (arith, did .1 .1, did .1 .2, sure .2, sure .3, least .least .ensures) in
-    let same = ap length (did .1 .3) ∙ length-overlay (loop .out) (loop .written) more (omega (arith, room-left, inv .2)) in
-    let joined = overlay-more (args .out .now) 0 before more (loop .written) (omega (arith, inv .4)) room-left in
-    (omega (arith, inv .0, rw length-drop at (did .0 .1)), omega (arith, did .1 .2, room-left), same ∙ inv .2, rw leaves-on (did .1 .0), rw (prints-on, length-append) (omega (arith, did .1 .2, inv .4)), did .1 .3 ∙ rw (prints-on, inv .5) joined, used-on)
+    let wrote = did .1 .1 in
+    let left : length (loop .out) - loop .written ≡ length (args .out .now) - length before = omega (arith, inv .2, inv .4 .0) in
+    let used-on = turn-used s (stateOf (loop .session)) chunk (loop .used) (turn .result .used) here (length (args .out .now)) (inv .0) (inv .5) (rw left at (did .0 .2)) in
+    let room-left : loop .written + length more ≤ length (args .out .now) = omega (arith, wrote .0, wrote .1 .0, sure .2, sure .3, least .least .ensures) in
+    let same = ap length (wrote .1 .1) ∙ length-overlay (loop .out) (loop .written) more (omega (arith, room-left, inv .2)) in
+    let joined = written-on (args .out .now) 0 before (loop .out) (loop .written) more _ _ room-left (inv .4) (wrote .1) in
+    (omega (arith, inv .0, rw length-drop at (did .0 .1)), omega (arith, wrote .1 .0, room-left), same ∙ inv .2, rw leaves-on (did .1 .0), rw prints-on joined, used-on)
 
 same-length : tie.Need-same-length Inv-loop μ-loop
 same-length c = search needs
@@ -130,8 +131,9 @@ returns c =
     let inv = rw kept at (loop .inv) in
     let here : stateOf (loop .session) ≡ stateAfter s (take (loop .used) chunk) = rw (inv .3) (state-session _) in
     let none = rest-stays (stateOf (loop .session)) chunk (loop .used) (least .least .result) (loop .written) len (least .least .ensures) (inv .1) (c .if1 .left) in
-    let all : usedOf len s chunk ≡ loop .used = used-all s chunk (loop .used) len (inv .0) (inv .6) (rw (here, inv .4) at none) in
-    rw all ((rw (inv .3, inv .4), inv .1), inv .5)
+    let size : loop .written ≡ length (prints s (take (loop .used) chunk)) = omega (arith, inv .4 .0) in
+    let all : usedOf len s chunk ≡ loop .used = used-all s chunk (loop .used) len (inv .0) (inv .5) (rw (here, size) at none) in
+    rw all (rw (inv .3, size), (inv .1, inv .4 .1))
 
 pub absorb-spec : {M : Type 1} → statement M
 absorb-spec =

@@ -7,8 +7,8 @@ use borrow.Author.Needs.{needs}
 use lib.ListN.{length, take}
 use lib.Seq.{length-take-le}
 use Rattle.measures.proofs.Overlay.{overlay-none}
-use Rattle.text.specs.Lines.{content, keptLine}
-use Rattle.text.proofs.LineLaws.{content-partial}
+use Rattle.input_lines.specs.Lines.{content, keptLine}
+use Rattle.input_lines.proofs.LineLaws.{content-partial}
 use Rattle.label_lines.specs.Session.{stateOf}
 use Rattle.label_lines.proofs.SessionLaws.{line-used, rest-used, line-taken, rest-taken}
 use Rattle.label_lines.proofs.session.advance.Statement.{statement}
@@ -51,7 +51,7 @@ returns c =
     let line = extended .extend .ensures in
     let says : content (extended .extend .result) ≡ keptLine (content (args .st .line) ++ take k chunk) = rw line (content-partial _) in
     let did = rw says at stepped in
-    ((omega arith, omega (arith, inside), taken), (rw (used .0, c .begin .ensures, did .0, did .1), did .2, rw (used .1) (did .3), rw (used .1) (did .4)))
+    ((omega arith, omega (arith, inside), taken), (rw (used .0, c .begin .ensures, did .0, did .1), (did .2, rw (used .1) (did .3))))
 
 returns-2 : tie.Need-returns-2
 returns-2 c =
@@ -65,7 +65,7 @@ returns-2 c =
     let k = found .piece-end .result in
     let used = rest-used s chunk k (start .pre .0) (found .piece-end .ensures .0) some (found .piece-end .ensures .1) in
     let taken = rest-taken s chunk k (start .pre .0) (found .piece-end .ensures .0) (length (args .out .now) - args .at) (omega (arith, start .pre .2)) (found .piece-end .ensures .1) in
-    ((some, found .piece-end .ensures .1, taken), (rw (used .0, c .before .extend .ensures), omega arith, rw (used .1) (omega arith), rw (used .1) (sym (overlay-none (args .out .now) (args .at)))))
+    ((some, found .piece-end .ensures .1, taken), (rw (used .0, c .before .extend .ensures), (omega arith, rw (used .1) (omega arith, sym (overlay-none (args .out .now) (args .at))))))
 
 pub advance-spec : {M : Type 1} → statement M
 advance-spec =

@@ -3,6 +3,8 @@ use mathlib.Core.Path.{refl}
 use native.Mathlib.Omega.{arith}
 use borrow.Author.Needs.{needs}
 use Rattle.measures.specs.Bar.{pricesOf, putBar}
+use Rattle.output_lines.specs.Output.{longestRefusal, lineRoom}
+use Rattle.output_lines.proofs.OutputLaws.{written}
 use Rattle.label_lines.proofs.SessionLaws.{fed-refused, fed-left, fed-accepted}
 use Rattle.label_lines.proofs.session.feed_bar.Statement.{statement}
 use Rattle.label_lines.proofs.session.feed_bar.Tie as tie
@@ -31,17 +33,14 @@ feed-requires c κs = search needs
 enum-known-verdict : tie.Need-enum-known-verdict
 enum-known-verdict c = search needs
 
-write-refusal-requires : tie.Need-write-refusal-requires
-write-refusal-requires c κs = search needs
+print-refusal-requires : tie.Need-print-refusal-requires
+print-refusal-requires c κs = search needs
 
 enum-told : tie.Need-enum-told
 enum-told c = search needs
 
-slice-aggregate-write-rows : tie.Need-slice-aggregate-write-rows
-slice-aggregate-write-rows c = search needs
-
-write-rows-requires : tie.Need-write-rows-requires
-write-rows-requires c κs = search needs
+print-rows-requires : tie.Need-print-rows-requires
+print-rows-requires c κs = search needs
 
 same-length : tie.Need-same-length
 same-length c = search needs
@@ -58,8 +57,8 @@ returns c =
     let denied = verdict .verdict .given .1 in
     let law = fed-refused (args .held) (args .bar) (fed .feed .result) (is .0) _ denied in
     let left = fed-left (args .held) (args .bar) (fed .feed .result) (is .0) _ denied in
-    let wrote = refused .write-refusal .ensures in
-    rw law (left, refl, omega (arith, wrote .0), wrote .1, wrote .2)
+    let wrote = refused .print-refusal .ensures in
+    rw law (left, refl, omega (arith, wrote .1), written longestRefusal _ (args .out .now) (args .at) _ _ (omega arith) (wrote .0))
 
 same-length-2 : tie.Need-same-length-2
 same-length-2 c = search needs
@@ -68,14 +67,14 @@ returns-2 : tie.Need-returns-2
 unfolding putBar pricesOf
 returns-2 c =
     let rows = c .before .before in
-    let told = rows .before .before .before in
+    let told = rows .before .before in
     let fed = told .before .before .before .before in
     let put = fed .before .before .before .before in
     let args = put .before .before .before .before .args in
     let is = rw (put .put-bar .ensures) at (fed .feed .ensures) in
     let law = fed-accepted (args .held) (args .bar) (fed .feed .result) (is .0) (told .enum-told .given .1) in
-    let wrote = rows .write-rows .ensures in
-    rw (law, ← is .1 .0) (refl, refl, wrote .0, wrote .1, wrote .2)
+    let wrote = rows .print-rows .ensures in
+    rw (law, ← is .1 .0) (refl, refl, wrote .1, written lineRoom _ (args .out .now) (args .at) _ _ (omega arith) (wrote .0))
 
 pub feed-bar-spec : {M : Type 1} → statement M
 feed-bar-spec =
@@ -89,10 +88,9 @@ feed-bar-spec =
     slice-aggregate-feed-2
     feed-requires
     enum-known-verdict
-    write-refusal-requires
+    print-refusal-requires
     enum-told
-    slice-aggregate-write-rows
-    write-rows-requires
+    print-rows-requires
     same-length
     returns
     same-length-2

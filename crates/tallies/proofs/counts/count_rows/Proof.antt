@@ -5,7 +5,7 @@ use native.Mathlib.Omega.{arith}
 use borrow.Author.Needs.{needs}
 use lib.ListN.{length}
 use Rattle.recognisers.specs.Number.{rowBytes}
-use Rattle.tallies.specs.Count.{Counted}
+use Rattle.tallies.specs.CountSteps.{Counted}
 use Rattle.tallies.proofs.CountLaws.{none-counted}
 use Rattle.tallies.proofs.counts.count_rows.Statement.{statement}
 use Rattle.tallies.proofs.counts.count_rows.Tie as tie

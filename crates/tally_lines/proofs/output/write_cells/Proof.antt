@@ -7,8 +7,8 @@ use lib.ListN.{length, getD, take, length-map}
 use lib.Seq.{take-all}
 use Rattle.measures.proofs.Overlay.{overlay-none}
 use Rattle.recognisers.specs.Number.{labels}
-use Rattle.label_lines.specs.Output.{longestCount}
-use Rattle.label_lines.proofs.OutputLaws.{Written, written-on}
+use Rattle.output_lines.specs.Output.{longestCount, Written}
+use Rattle.output_lines.proofs.OutputLaws.{written-on}
 use Rattle.tally_lines.specs.Output.{cellLine, cellLines}
 use Rattle.tally_lines.proofs.OutputLaws.{cell-most, cells-next}
 use Rattle.tally_lines.proofs.output.write_cells.Statement.{statement}
@@ -58,7 +58,7 @@ loop-again c =
     let line = cellLine (args .k) (loop .c) (getD counts (loop .c) 0) in
     let most = cell-most (args .k) (loop .c) (getD counts (loop .c) 0) in
     let did = call .write-cell .ensures in
-    let on = written-on (args .out .now) (args .at) (cellLines (args .k) 0 (take (loop .c) counts)) _ _ line _ _ (omega (arith, most, start .pre, inv .2)) (inv .3) (did .1, did .2) in
+    let on = written-on (args .out .now) (args .at) (cellLines (args .k) 0 (take (loop .c) counts)) _ _ line _ _ (omega (arith, most, start .pre, inv .2)) (inv .3) (did .1) in
     (omega arith, call .write-cell .kept .1 .1 .1 .0 ∙ inv .1, omega (arith, did .0, inv .2), rw (cells-next (args .k) counts (loop .c) (omega (arith, all))) on)
 
 same-length : tie.Need-same-length Inv-loop μ-loop
@@ -72,7 +72,7 @@ returns c =
     let all : length counts ≡ labels = simp length-map at (start .good .1 .0 .1 .1 .0 .1 .0 .1) in
     let inv = at-loop .loop .inv in
     let done = rw (take-all (at-loop .loop .c) counts (omega (arith, all))) at (inv .3) in
-    (omega (arith, inv .2), done .0, done .1)
+    (omega (arith, inv .2), done)
 
 pub write-cells-spec : {M : Type 1} → statement M
 write-cells-spec =

@@ -9,7 +9,8 @@ use lib.Seq.{take-all}
 use Rattle.measures.proofs.Overlay.{overlay-none}
 use Rattle.tallies.specs.Tally.{rowOfCounts}
 use Rattle.recognisers.specs.Number.{recognisers}
-use Rattle.label_lines.proofs.OutputLaws.{Written, written-on}
+use Rattle.output_lines.specs.Output.{Written}
+use Rattle.output_lines.proofs.OutputLaws.{written-on}
 use Rattle.tally_lines.specs.Output.{cellLines, tallyLines, rowRoom}
 use Rattle.tally_lines.proofs.OutputLaws.{rows-next}
 use Rattle.tally_lines.proofs.output.write_tally.Statement.{statement}
@@ -52,7 +53,7 @@ loop-again c =
     let all : length tally ≡ recognisers = start .good .0 .1 .0 .1 in
     let lines = cellLines (loop .k) 0 (getD tally (loop .k) (rowOfCounts []) .counts) in
     let did = call .write-cells .ensures in
-    let on = written-on (args .out .now) 0 (tallyLines 0 (take (loop .k) tally)) _ _ lines _ _ (omega (arith, did .0, did .1, start .pre, inv .2)) (inv .3) (did .1, did .2) in
+    let on = written-on (args .out .now) 0 (tallyLines 0 (take (loop .k) tally)) _ _ lines _ _ (omega (arith, did .0, did .1 .0, start .pre, inv .2)) (inv .3) (did .1) in
     (omega arith, call .write-cells .kept .1 .1 .0 ∙ inv .1, omega (arith, did .0, inv .2), rw (rows-next tally (loop .k) (rowOfCounts []) (omega (arith, all))) on)
 
 same-length : tie.Need-same-length Inv-loop μ-loop
@@ -66,7 +67,7 @@ returns c =
     let all : length tally ≡ recognisers = start .good .0 .1 .0 .1 in
     let inv = at-loop .loop .inv in
     let done = rw (take-all (at-loop .loop .k) tally (omega (arith, all))) at (inv .3) in
-    (omega (arith, inv .2), omega (arith, done .0), done .1)
+    (omega (arith, inv .2), done)
 
 pub write-tally-spec : {M : Type 1} → statement M
 write-tally-spec =

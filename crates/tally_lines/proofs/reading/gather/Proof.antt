@@ -10,11 +10,11 @@ use lib.ListN.{length, take, drop, length-append, length-drop}
 use Rattle.measures.specs.Bar.{overlay, pricesOf}
 use Rattle.measures.proofs.Overlay.{overlay-none, overlay-more}
 use Rattle.measures.proofs.PriceLaws.{length-prices, prices-append}
-use Rattle.text.specs.Lines.{content, keptLine, partialOf}
-use Rattle.text.proofs.LineLaws.{content-partial}
-use Rattle.text.proofs.PartLaws.{to-end}
+use Rattle.input_lines.specs.Lines.{content, keptLine, partialOf}
+use Rattle.input_lines.proofs.LineLaws.{content-partial}
+use Rattle.input_lines.proofs.PartLaws.{to-end}
 use Rattle.tally_lines.specs.declared.reading.Gathered.{Gathered}
-use Rattle.label_lines.specs.Output.{goesOn}
+use Rattle.output_lines.specs.Output.{goesOn}
 use Rattle.tally_lines.specs.Session.{readFrom}
 use Rattle.tally_lines.proofs.GuardLaws.{goes-on, used-some}
 use Rattle.tally_lines.proofs.ReadLaws.{read-kept, read-turn, gathered-is, begun-kept}

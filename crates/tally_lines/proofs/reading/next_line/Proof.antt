@@ -7,9 +7,9 @@ use lib.ListN.{length, take}
 use Rattle.measures.specs.Bar.{pricesOf}
 use Rattle.measures.proofs.Overlay.{overlay-none}
 use Rattle.text.specs.LineText.{lineOf}
-use Rattle.text.specs.Lines.{content, keptLine}
-use Rattle.text.proofs.LineLaws.{content-partial}
-use Rattle.label_lines.specs.declared.output.Stop.the-variants.{Going}
+use Rattle.input_lines.specs.Lines.{content, keptLine}
+use Rattle.input_lines.proofs.LineLaws.{content-partial}
+use Rattle.output_lines.specs.declared.output.Stop.the-variants.{Going}
 use Rattle.tally_lines.specs.Session.{Read, readFrom, lineBars, lineStop}
 use Rattle.tally_lines.proofs.ReadLaws.{read-line, read-rest, bars-few, gathered-is}
 use lib.Seq.{length-take-le}

@@ -9,12 +9,12 @@ use borrow.Author.Tests.{ltb-true}
 use lib.ListN.{length, take, drop, length-map, length-take, length-drop}
 use lib.Seq.{take-all, take-add}
 use Rattle.recognisers.specs.Number.{longestLine}
-use Rattle.text.specs.Lines.{content, keptLine, partialOf}
-use Rattle.text.proofs.LineLaws.{content-partial}
-use Rattle.text.proofs.PartLaws.{to-end}
-use Rattle.text.proofs.RunLaws.{both}
+use Rattle.input_lines.specs.Lines.{content, keptLine, partialOf}
+use Rattle.input_lines.proofs.LineLaws.{content-partial}
+use Rattle.input_lines.proofs.PartLaws.{to-end}
+use Rattle.input_lines.proofs.RunLaws.{both}
 use Rattle.tally_lines.specs.declared.session.Session.{Session}
-use Rattle.label_lines.specs.Output.{goesOn}
+use Rattle.output_lines.specs.Output.{goesOn}
 use Rattle.tally_lines.specs.Session.{State, stateOf, sessionOf, stateAfter}
 use Rattle.tally_lines.proofs.SessionLaws.{taken-append, state-session, session-stays, rest-left}
 use Rattle.tally_lines.proofs.session.absorb.Statement.{statement}

@@ -2,9 +2,8 @@
 use mathlib.Core.Path.{sym, _∙_}
 use native.Mathlib.Omega.{arith}
 use borrow.Author.Needs.{needs}
-use borrow.Author.Tests.{le-leb}
-use lib.ListN.{length}
-use Rattle.label_lines.specs.Output.{longestRefusal}
+use Rattle.output_lines.specs.Output.{longestRefusal}
+use Rattle.output_lines.proofs.OutputLaws.{written}
 use Rattle.tally_lines.proofs.session.print.Statement.{statement}
 use Rattle.tally_lines.proofs.session.print.Tie as tie
 
@@ -32,7 +31,7 @@ returns c =
     let then = call .before .before .before in
     let start = then .before .before .before .before .before in
     let wrote = call .write-tally .ensures in
-    rw (sym (then .before .goes-on .ensures) ∙ then .if1 .taken) (omega (arith, wrote .0, start .pre), wrote .1, wrote .2)
+    rw (sym (then .before .goes-on .ensures) ∙ then .if1 .taken) (omega (arith, wrote .0, start .pre), wrote .1)
 
 same-length-2 : tie.Need-same-length-2
 same-length-2 c = search needs
@@ -43,7 +42,8 @@ returns-2 c =
     let else = call .before .before in
     let start = else .before .before .before .before .before in
     let out = start .args .out .now in
-    rw (sym (else .before .goes-on .ensures) ∙ else .if1 .left) (rw (le-leb longestRefusal (length out) (omega (arith, start .pre))) at (call .print-refusal .ensures))
+    let wrote = call .print-refusal .ensures in
+    rw (sym (else .before .goes-on .ensures) ∙ else .if1 .left) (omega (arith, wrote .1, start .pre), written longestRefusal _ out 0 _ _ (omega (arith, start .pre)) (wrote .0))
 
 pub print-spec : {M : Type 1} → statement M
 print-spec =

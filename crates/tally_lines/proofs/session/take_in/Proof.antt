@@ -5,9 +5,9 @@ use mathlib.Core.Path.{_≡_, sym, ap, _∙_}
 use native.Mathlib.Omega.{arith}
 use lib.ListN.{length, take}
 use lib.Seq.{length-take-le}
-use Rattle.bar_box.proofs.SeamLaws.{front-bars}
-use Rattle.text.specs.Lines.{content}
-use Rattle.text.proofs.LineLaws.{content-partial}
+use Rattle.measures.proofs.PriceLaws.{front-bars}
+use Rattle.input_lines.specs.Lines.{content}
+use Rattle.input_lines.proofs.LineLaws.{content-partial}
 use Rattle.tally_lines.specs.declared.reading.Gathered.{Gathered}
 use Rattle.tally_lines.specs.Session.{readFrom, stateOf, sessionOf}
 use Rattle.tally_lines.proofs.SessionLaws.{taken-by}

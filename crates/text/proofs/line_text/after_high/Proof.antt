@@ -1,7 +1,8 @@
 -- A fourth comma makes five fields or more; without it there are four. Assumes nothing.
 use borrow.Author.Needs.{needs}
-use Rattle.text.specs.LineText.{comma}
-use Rattle.text.proofs.LineLaws.{pieces-some, pieces-whole, pieces-cut, too-many}
+use Rattle.input_lines.specs.Lines.{comma}
+use Rattle.input_lines.proofs.LineLaws.{pieces-some, pieces-whole, pieces-cut}
+use Rattle.text.proofs.LineTextLaws.{too-many}
 use Rattle.text.proofs.line_text.after_high.Statement.{statement}
 use Rattle.text.proofs.line_text.after_high.Tie as tie
 

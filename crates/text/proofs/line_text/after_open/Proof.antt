@@ -3,8 +3,9 @@ use native.Mathlib.Omega.{arith}
 use borrow.Author.Needs.{needs}
 use lib.ListN.{length-take}
 use Rattle.recognisers.specs.Refusal.{firstTrue}
-use Rattle.text.specs.LineText.{comma, lineVerdict, saidOf, fieldsLine}
-use Rattle.text.proofs.LineLaws.{pieces-whole, pieces-cut}
+use Rattle.input_lines.specs.Lines.{comma}
+use Rattle.text.specs.LineText.{lineVerdict, saidOf, fieldsLine}
+use Rattle.input_lines.proofs.LineLaws.{pieces-whole, pieces-cut}
 use Rattle.text.proofs.line_text.after_open.Statement.{statement}
 use Rattle.text.proofs.line_text.after_open.Tie as tie
 

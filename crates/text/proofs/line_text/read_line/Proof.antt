@@ -4,8 +4,10 @@ use borrow.Author.Needs.{needs}
 use lib.ListN.{length-take}
 use Rattle.recognisers.specs.Refusal.{firstTrue}
 use Rattle.text.specs.declared.line_text.Line.the-variants.{BadShape}
-use Rattle.text.specs.LineText.{comma, lineVerdict, saidOf, lineOf, fieldsLine}
-use Rattle.text.proofs.LineLaws.{pieces-whole, pieces-cut, too-long, short-enough, answered}
+use Rattle.input_lines.specs.Lines.{comma}
+use Rattle.text.specs.LineText.{lineVerdict, saidOf, lineOf, fieldsLine}
+use Rattle.input_lines.proofs.LineLaws.{pieces-whole, pieces-cut}
+use Rattle.text.proofs.LineTextLaws.{too-long, short-enough, answered}
 use Rattle.text.proofs.line_text.read_line.Statement.{statement}
 use Rattle.text.proofs.line_text.read_line.Tie as tie
 

@@ -6,9 +6,9 @@ use borrow.Author.Needs.{needs}
 use lib.ListN.{length, length-map, length-take}
 use Rattle.measures.proofs.RunLaws.{take-least}
 use Rattle.recognisers.specs.Number.{longestLine}
-use Rattle.text.specs.Lines.{content}
+use Rattle.input_lines.specs.Lines.{content}
 use Rattle.text.specs.LineText.{lineOf}
-use Rattle.text.proofs.LineLaws.{answered}
+use Rattle.text.proofs.LineTextLaws.{answered}
 use Rattle.text.proofs.line_text.read_partial.Statement.{statement}
 use Rattle.text.proofs.line_text.read_partial.Tie as tie
 

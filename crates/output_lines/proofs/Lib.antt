@@ -1,0 +1,3 @@
+-- Laws that the proofs of several functions, and the crates above, cite.
+pub mod NumeralLaws
+pub mod OutputLaws
