@@ -45,7 +45,7 @@ fn by_one(gone: usize, stay: usize) -> usize
 // the places, since a box that is handed on is copied.
 fn take_in(b: BarBox, prices: &[f64], sheet: &mut [u8]) -> BarBox
     requires { ⌜ (b .count + length (barsOf (now prices)) ≤ 4294967295) × (rowBytes * length (barsOf (now prices)) ≤ length (now sheet)) ⌝ }
-    ensures box { λ r. ⌜ r ≡ takenIn b (barsOf (now (prices .entry))) ⌝ }
+    ensures after { λ r. ⌜ r ≡ takenIn b (barsOf (now (prices .entry))) ⌝ }
     ensures sheet { λ _. ⌜ now (sheet .exit) ≡ overlay (now (sheet .entry)) 0 (rowsOf (b .thresholds) (b .count) (kept b) (barsOf (now (prices .entry)))) ⌝ }
 {
     let t = b.thresholds;

@@ -9,9 +9,9 @@ use input_lines::lines::LINE_FEED;
 use label_texts::label_text::text_of;
 use measures::least;
 use recognisers::Refusal;
-use recognisers::refusals::refusal_number;
 use recognisers::counts::RECOGNISERS;
 use recognisers::counts::ROW_BYTES;
+use recognisers::refusals::refusal_number;
 
 // The most bytes of a row: two numbers of at most 20 digits, two labels of at most 15 bytes, and what ends each; of a count, which has a
 // label less; and of a refusal: the word, three numbers, and what ends each.

@@ -4,10 +4,10 @@ use bar_box::BarBox;
 use measures::first_bars;
 use recognisers::Thresholds;
 use recognisers::Verdict;
-use recognisers::refusals::refusal_number;
 use recognisers::counts::LABELS;
 use recognisers::counts::RECOGNISERS;
 use recognisers::counts::ROW_BYTES;
+use recognisers::refusals::refusal_number;
 use tallies::Tallied;
 use tallies::TallyRow;
 

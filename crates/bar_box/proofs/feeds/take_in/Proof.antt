@@ -1,6 +1,6 @@
 -- The newest kept bars at the front of the run, the rows, and then the places: those that stay move to the front, and the newest lent bars
 -- come behind them. Assumes nothing.
-use Prim.Native.Nat.{_+_, _-_, _≤_, _<_}
+use Prim.Native.Nat.{ℕ, _+_, _-_, _≤_, _<_}
 use mathlib.Core.Path.{_≡_, refl, sym, ap, _∙_}
 use native.Mathlib.Omega.{arith}
 use borrow.Author.Needs.{needs}
@@ -41,6 +41,43 @@ Inv-loop4 prices sheet count after₀ kept old from i n new stay gone near j fir
 
 abbrev μ-loop4 : tie.MeasureT-loop4
 μ-loop4 prices sheet count after₀ kept old from i n new stay gone near j first k₀ after k = new - k
+
+-- ---- the places on the way to the first loop over the places of the box, by what is known there
+
+module _ (lp : tie.At-loop2 Inv-loop μ-loop Inv-loop2 μ-loop2 Inv-loop3 μ-loop3 Inv-loop4 μ-loop4) where
+  abbrev four : tie.After-least4 Inv-loop μ-loop Inv-loop2 μ-loop2 Inv-loop3 μ-loop3 Inv-loop4 μ-loop4
+  four = lp .before .before
+
+  abbrev counted : tie.After-count Inv-loop μ-loop Inv-loop2 μ-loop2 Inv-loop3 μ-loop3 Inv-loop4 μ-loop4
+  counted = four .before .before
+
+  abbrev two : tie.After-least2 Inv-loop μ-loop Inv-loop2 μ-loop2 Inv-loop3 μ-loop3 Inv-loop4 μ-loop4
+  two = counted .before .before .before .before .before .before .before .before .before
+
+  abbrev start : tie.Start Inv-loop μ-loop Inv-loop2 μ-loop2 Inv-loop3 μ-loop3 Inv-loop4 μ-loop4
+  start = two .before .before .before .before .before
+
+  abbrev box : BarBox
+  box = start .args .b
+
+  full : length (box .bars) ≡ places
+  full = simp length-map at (start .good .0 .1 .1 .1 .1 .0 .1 .0 .1)
+
+  -- how many bars are kept, how many of them stay and go, and how many lent ones come
+  abbrev gone : ℕ
+  gone = two .before .least .result - four .least4 .result
+
+  abbrev stay : ℕ
+  stay = four .least4 .result
+
+  abbrev new : ℕ
+  new = four .before .least3 .result
+
+  abbrev near : ℕ
+  near = lp .before .by-one .result
+
+  moved : (near ≤ stay) × (near ≤ stay + gone - 1) × ((j : ℕ) → j < near → gone ≡ 1)
+  moved = by-one gone stay near (lp .before .by-one .ensures)
 
 cast-least :
     tie.Need-cast-least Inv-loop μ-loop Inv-loop2 μ-loop2 Inv-loop3 μ-loop3 Inv-loop4 μ-loop4
@@ -221,42 +258,20 @@ loop2-again :
     tie.Need-loop2-again Inv-loop μ-loop Inv-loop2 μ-loop2 Inv-loop3 μ-loop3 Inv-loop4 μ-loop4
 loop2-again c =
     let lp = c .before .before in
-    let one = lp .before in
-    let four = one .before in
-    let three = four .before in
-    let counted = three .before in
-    let labelled = counted .before .before .before .before in
-    let left = labelled .before .before .before in
-    let two = left .before .before in
-    let first = two .before in
-    let start = first .before .before .before .before in
-    let b = start .args .b in
-    let gone = first .least .result - four .least4 .result in
     let j = lp .loop2 .j in
     let inv = lp .loop2 .inv in
-    let full : length (b .bars) ≡ places = simp length-map at (start .good .0 .1 .1 .1 .1 .0 .1 .0 .1) in
-    let moved = by-one gone (four .least4 .result) (one .by-one .result) (one .by-one .ensures) in
-    let by = moved .2 j (c .before .loop2-test .taken) in
-    let there : j + gone < length (b .bars) = omega (arith, by, moved .0, c .before .loop2-test .taken, four .least4 .ensures, three .least3 .ensures, first .least .ensures, full) in
-    (search needs, search needs, simp length-set (inv .2), ap (λ (x : BarBox). withBars x (set (x .bars) j (getD (x .bars) (j + 1) noKept))) (inv .3) ∙ ap (withBars b) (shifted-next (b .bars) 0 gone j (j + 1) noKept (omega (arith, by)) (omega arith) there))
+    let taken = c .before .loop2-test .taken in
+    let by = moved lp .2 j taken in
+    let there : j + gone lp < length (box lp .bars) = omega (arith, by, moved lp .0, taken, four lp .least4 .ensures, four lp .before .least3 .ensures, two lp .before .least .ensures, full lp) in
+    (search needs, search needs, simp length-set (inv .2), ap (λ (x : BarBox). withBars x (set (x .bars) j (getD (x .bars) (j + 1) noKept))) (inv .3) ∙ ap (withBars (box lp)) (shifted-next (box lp .bars) 0 (gone lp) j (j + 1) noKept (omega (arith, by)) (omega arith) there))
 
 loop3-holds :
     tie.Need-loop3-holds Inv-loop μ-loop Inv-loop2 μ-loop2 Inv-loop3 μ-loop3 Inv-loop4 μ-loop4
 loop3-holds c =
     let lp = c .before in
-    let one = lp .before in
-    let four = one .before in
-    let three = four .before in
-    let counted = three .before in
-    let labelled = counted .before .before .before .before in
-    let left = labelled .before .before .before in
-    let two = left .before .before in
-    let first = two .before in
     let after = lp .loop2 .after in
     let inv = lp .loop2 .inv in
-    let gone = first .least .result - four .least4 .result in
-    let moved = by-one gone (four .least4 .result) (one .by-one .result) (one .by-one .ensures) in
-    (omega (arith, moved .0, inv .0), omega arith, inv .2, ap (withBars after) (sym (shifted-start (after .bars) (lp .loop2 .j) gone)))
+    (omega (arith, moved lp .0, inv .0), omega arith, inv .2, ap (withBars after) (sym (shifted-start (after .bars) (lp .loop2 .j) (gone lp))))
 
 add-next-2 :
     tie.Need-add-next-2 Inv-loop μ-loop Inv-loop2 μ-loop2 Inv-loop3 μ-loop3 Inv-loop4 μ-loop4
@@ -306,21 +321,12 @@ loop3-again :
 loop3-again c =
     let lp3 = c .before .before in
     let lp = lp3 .before .before in
-    let one = lp .before in
-    let four = one .before in
-    let three = four .before in
-    let counted = three .before in
-    let labelled = counted .before .before .before .before in
-    let left = labelled .before .before .before in
-    let two = left .before .before in
-    let first = two .before in
     let was = lp .loop2 .after in
-    let gone = first .least .result - four .least4 .result in
     let j = lp3 .loop3 .j in
     let inv = lp3 .loop3 .inv in
     let taken = c .before .loop3-test .taken in
-    let there : j + gone < length (was .bars) = omega (arith, taken, four .least4 .ensures, three .least3 .ensures, first .least .ensures, lp .loop2 .inv .2) in
-    (search needs, omega (arith, inv .1), simp length-set (inv .2), ap (λ (x : BarBox). withBars x (set (x .bars) j (getD (x .bars) (j + gone) noKept))) (inv .3) ∙ ap (withBars was) (shifted-next (was .bars) (lp .loop2 .j) gone j (j + gone) noKept refl (inv .1) there))
+    let there : j + gone lp < length (was .bars) = omega (arith, taken, four lp .least4 .ensures, four lp .before .least3 .ensures, two lp .before .least .ensures, lp .loop2 .inv .2) in
+    (search needs, omega (arith, inv .1), simp length-set (inv .2), ap (λ (x : BarBox). withBars x (set (x .bars) j (getD (x .bars) (j + gone lp) noKept))) (inv .3) ∙ ap (withBars was) (shifted-next (was .bars) (lp .loop2 .j) (gone lp) j (j + gone lp) noKept refl (inv .1) there))
 
 sub-first :
     tie.Need-sub-first Inv-loop μ-loop Inv-loop2 μ-loop2 Inv-loop3 μ-loop3 Inv-loop4 μ-loop4
@@ -382,29 +388,18 @@ loop4-again c =
     let lp4 = c .before .before in
     let lp3 = lp4 .before .before in
     let lp = lp3 .before .before in
-    let one = lp .before in
-    let four = one .before in
-    let three = four .before in
-    let counted = three .before in
-    let labelled = counted .before .before .before .before in
-    let left = labelled .before .before .before in
-    let two = left .before .before in
-    let first = two .before in
-    let start = first .before .before .before .before in
     let was = lp3 .loop3 .after in
-    let bars = barsOf (start .args .prices .now) in
-    let n = counted .count .result in
-    let new = three .least3 .result in
-    let stay = four .least4 .result in
+    let bars = barsOf (start lp .args .prices .now) in
+    let first = counted lp .count .result - new lp in
     let k = lp4 .loop4 .k in
     let inv = lp4 .loop4 .inv in
     let taken = c .before .loop4-test .taken in
-    let rs = numbered (start .args .b .count) bars in
-    let size = length-numbered (start .args .b .count) bars in
-    let within : n - new + k < length bars = omega (arith, taken, counted .count .ensures, three .least3 .ensures) in
-    let value = c .numbered-bar .ensures ∙ sym (numbered-from (start .args .b .count) bars (n - new) k within) in
-    let laid-next = overlay-copy (was .bars) stay (drop (n - new) rs) k (stay + k) noKept refl (rw (length-drop, size) (omega arith)) (omega (arith, taken, four .least4 .ensures, three .least3 .ensures, lp3 .loop3 .inv .2)) in
-    (search needs, simp length-set (inv .1), ap (λ (x : BarBox). withBars x (set (x .bars) (stay + k) (c .numbered-bar .result))) (inv .2) ∙ ap (withBars was) (rw value laid-next))
+    let rs = numbered (box lp .count) bars in
+    let size = length-numbered (box lp .count) bars in
+    let within : first + k < length bars = omega (arith, taken, counted lp .count .ensures, four lp .before .least3 .ensures) in
+    let value = c .numbered-bar .ensures ∙ sym (numbered-from (box lp .count) bars first k within) in
+    let laid-next = overlay-copy (was .bars) (stay lp) (drop first rs) k (stay lp + k) noKept refl (rw (length-drop, size) (omega arith)) (omega (arith, taken, four lp .least4 .ensures, four lp .before .least3 .ensures, lp3 .loop3 .inv .2)) in
+    (search needs, simp length-set (inv .1), ap (λ (x : BarBox). withBars x (set (x .bars) (stay lp + k) (c .numbered-bar .result))) (inv .2) ∙ ap (withBars was) (rw value laid-next))
 
 cast-after :
     tie.Need-cast-after Inv-loop μ-loop Inv-loop2 μ-loop2 Inv-loop3 μ-loop3 Inv-loop4 μ-loop4
