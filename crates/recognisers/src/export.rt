@@ -100,8 +100,7 @@ fn decode(s: &[u8], di: usize, n: usize, out: &mut [f64]) -> usize
 
 // The bars of the gate's window: none for a recogniser without a gate.
 pub fn gate_bars(k: u32) -> usize
-    ensures bars { λ r. ⌜ r ≡ cond (eqb k gated) quarterBars 0 ⌝ }
-    ensures bound { λ r. ⌜ r ≤ quarterBars ⌝ }
+    ensures { λ r. ⌜ (r ≡ cond (eqb k gated) quarterBars 0) × (r ≤ quarterBars) ⌝ }
 {
     if k == counts::GATED {
         counts::QUARTER_BARS
