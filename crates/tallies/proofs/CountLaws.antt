@@ -12,7 +12,8 @@ use lib.ListN.{length, getD, set, length-append, replicate, length-set, length-r
 use lib.Seq.{getD-set-same, getD-set-other, getD-append-add}
 use Rattle.recognisers.specs.Number.{recognisers, labels, rowBytes}
 use Rattle.tallies.specs.Tally.{totalOf, countBelow, v1In, firstWith, rowsWith, gainRow}
-use Rattle.tallies.specs.CountSteps.{cells, Counted}
+use Rattle.tallies.specs.Count.{cells}
+use Rattle.tallies.specs.CountSteps.{Counted}
 use Rattle.tallies.proofs.PlaceLaws.{length-places}
 use Rattle.tallies.proofs.TallyLaws.{gain-gain, gain-none, total-one}
 

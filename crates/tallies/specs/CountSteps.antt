@@ -5,15 +5,12 @@ use mathlib.Core.List.{List}
 use mathlib.Core.Path.{_≡_}
 use lib.ListN.{length, getD}
 use Rattle.recognisers.specs.Number.{recognisers, labels, rowBytes}
+use Rattle.tallies.specs.Count.{cells}
 use Rattle.tallies.specs.Tally.{v1In, firstWith}
 
 -- each row has a label's code as v1 of each recogniser
 abbrev pub Known : List ℕ → Type 0
 Known rows = (i k : ℕ) → i < length rows / rowBytes → k < recognisers → v1In rows i k < labels
-
--- the numbers of all recognisers
-abbrev pub cells : ℕ
-cells = labels * recognisers
 
 -- the numbers count the first n rows
 abbrev pub Counted : List ℕ → ℕ → List ℕ → Type 0

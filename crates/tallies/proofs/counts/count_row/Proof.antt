@@ -5,7 +5,7 @@ use native.Mathlib.Omega.{arith}
 use borrow.Author.Needs.{needs}
 use lib.ListN.{length}
 use Rattle.recognisers.specs.Number.{recognisers}
-use Rattle.tallies.specs.CountSteps.{cells}
+use Rattle.tallies.specs.Count.{cells}
 use Rattle.tallies.proofs.CountLaws.{Passed, none-passed, all-passed, number-most, next-passed}
 use Rattle.tallies.proofs.counts.count_row.Statement.{statement}
 use Rattle.tallies.proofs.counts.count_row.Tie as tie
