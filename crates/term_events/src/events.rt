@@ -30,7 +30,7 @@ pub struct Carried {
 }
 
 // The term bar that a bar ended, if any, and what is carried on.
-pub struct Step {
+struct Step {
     pub ended: OpenBar,
     pub carried: Carried,
 }

@@ -20,7 +20,7 @@ use Rattle.term_events.specs.declared.events.{Carried.Carried, Passed.Passed}
 use Rattle.term_events.specs.Events.{Event, endedOf, carriedOf, minutesOf}
 use Rattle.term_events.specs.EventSteps.{Ready, endAfter, passOf}
 use Rattle.term_events.proofs.EventLaws.{ended-few, length-minutes, ended-more, carried-more}
-use Rattle.term_events.proofs.StepLaws.{minutes-drop, ready-after, passed-by}
+use Rattle.term_events.proofs.StepLaws.{PassedBy, minutes-drop, ready-after, passed-by}
 use Rattle.terms.proofs.FeedLaws.{some-accepted, some-room}
 
 module _ (h : Hours) (m : ℕ) (c : Carried) (ps : List Float) (ss : List ℕ) (from : ℕ) where
@@ -46,42 +46,40 @@ module _ (h : Hours) (m : ℕ) (c : Carried) (ps : List Float) (ss : List ℕ) (
     pub ended : endedTo (f .at) ≡ endedTo done ++ barsOf (take (4 * f .count) run)
     pub carried : f .carried ≡ carriedTo (f .at)
 
-  part-of : Ready h m c (drop from ss) → length ss ≡ length (barsOf ps) → (t : Thresholds) (n sheet : ℕ) → feedVerdict t n (length ps) sheet ≡ Accepted
-      → (done : ℕ) → from ≤ done → done < length ss → (run : List Float) → 4 ≤ length run
-      → let r = passOf h m (barsOf ps) (carriedTo done) (endAfter h m (carriedTo done .last)) done 0 run (drop done ss) in PartFits t n sheet done (r .0) (r .1)
-  part-of ready each t n sheet e done past less run some =
+  -- what passing from the next bar on leaves
+  passed-part : Ready h m c (drop from ss) → length ss ≡ length (barsOf ps) → (done : ℕ) → from ≤ done → done < length ss → (run : List Float)
+      → PassedBy h m (carriedTo done) (drop (done - from) eventsFrom) done 0 run (passOf h m (barsOf ps) (carriedTo done) (endAfter h m (carriedTo done .last)) done 0 run (drop done ss))
+  passed-part ready each done past less run =
       let bars = barsOf ps in
-      let es = eventsFrom in
       let k = done - from in
       let sum-is : from + k ≡ done = omega arith in
+      let sizes : length (drop from ss) ≡ length (drop from bars) = rw (length-drop from ss, length-drop from bars, each) in
+      let here : Ready h m (carriedTo done) (drop done ss) = rw (← minutes-drop from ss bars, drop-drop k from ss, sum-is) at (ready-after h m c (drop from ss) (drop from bars) k sizes ready) in
+      let later : minutesOf (drop done ss) (drop done bars) ≡ drop k eventsFrom = sym (drop-drop k from (minutesOf ss bars) ∙ rw sum-is (minutes-drop done ss bars)) in
+      rw later at (passed-by h m bars (carriedTo done) done 0 run (drop done ss) here (rw length-drop (omega arith)) (omega arith))
+
+  part-of : length ss ≡ length (barsOf ps) → (t : Thresholds) (n sheet : ℕ) → feedVerdict t n (length ps) sheet ≡ Accepted → (done : ℕ) → from ≤ done → done < length ss → (run : List Float) → 4 ≤ length run
+      → (r : Passed × List Float) → PassedBy h m (carriedTo done) (drop (done - from) eventsFrom) done 0 run r → PartFits t n sheet done (r .0) (r .1)
+  part-of each t n sheet e done past less run some r by =
+      let es = eventsFrom in
+      let k = done - from in
       let old = endedTo done in
-      let mid = carriedTo done in
-      let size = length-minutes ss bars each in
-      let left = length-drop from (minutesOf ss bars) in
-      let sizes : length (drop from ss) ≡ length (drop from bars) = rw (length-drop, length-drop, each) in
-      let here : Ready h m mid (drop done ss) = rw (← minutes-drop from ss bars, drop-drop k from ss, sum-is) at (ready-after h m c (drop from ss) (drop from bars) k sizes ready) in
-      let later : minutesOf (drop done ss) (drop done bars) ≡ drop k es = sym (drop-drop k from (minutesOf ss bars) ∙ rw (sum-is) (minutes-drop done ss bars)) in
-      let r = passOf h m bars mid (endAfter h m (mid .last)) done 0 run (drop done ss) in
-      let by = rw later at (passed-by h m bars mid done 0 run (drop done ss) here (rw length-drop (omega arith)) (omega arith)) in
       let p = by .passed in
-      let new = endedOf h m mid (take p (drop k es)) in
+      let new = endedOf h m (carriedTo done) (take p (drop k es)) in
+      let size = length-minutes ss (barsOf ps) each in
+      let left = length-drop from (minutesOf ss (barsOf ps)) in
+      let rest = length-drop k es in
       let to : r .0 .at - from ≡ k + p = omega (arith, by .at) in
       let both-ended : endedTo (r .0 .at) ≡ old ++ new = rw to (ended-more h m c es k p) in
       let count : r .0 .count ≡ length new = omega (arith, by .ended) in
       let four = length-prices new in
       let front : take (4 * r .0 .count) (r .1) ≡ pricesOf new = rw (by .prices) (take-at (pricesOf new) (drop (0 + length (pricesOf new)) run) (4 * r .0 .count) (omega arith)) in
       let bars-are : barsOf (take (4 * r .0 .count) (r .1)) ≡ new = ap barsOf front ∙ bars-prices new in
-      let within = by .within in
-      let rest = length-drop k es in
-      let few-ended = ended-few h m c (take (r .0 .at - from) es) in
-      let few-taken = length-take (r .0 .at - from) es in
-      let four-bars = length-bars ps in
-      let sum : length old + r .0 .count ≤ length ps / 4 = omega (arith, length-append old new, ap length both-ended) in
-      let few = by .few in
+      let sum : length old + r .0 .count ≤ length ps / 4 = omega (arith, length-append old new, ap length both-ended, ended-few h m c (take (r .0 .at - from) es), length-take (r .0 .at - from) es, length-bars ps) in
       record {
         some = omega (arith, by .at, by .some (omega arith) (omega arith));
-        within = omega (arith, by .at);
-        enough = rw (by .prices, length-overlay run 0 (pricesOf new) (omega arith)) (omega arith);
+        within = omega (arith, by .at, by .within);
+        enough = rw (by .prices, length-overlay run 0 (pricesOf new) (omega (arith, by .few))) (omega (arith, by .few));
         few = omega (arith, fits _ _ _ _ e .few);
         accepted = some-accepted _ _ _ _ e (length old) (r .0 .count) sum;
         room = some-room _ _ _ _ e (length old) (r .0 .count) sum;
@@ -94,7 +92,7 @@ module _ (h : Hours) (m : ℕ) (c : Carried) (ps : List Float) (ss : List ℕ) (
   pub part-fits : Ready h m c (drop from ss) → length ss ≡ length (barsOf ps) → (t : Thresholds) (n sheet : ℕ) → feedVerdict t n (length ps) sheet ≡ Accepted
       → (done : ℕ) → from ≤ done → done < length ss → (run : List Float) → 4 ≤ length run → (carried : Carried) → carried ≡ carriedTo done → (f : Passed) (left : List Float)
       → let r = passOf h m (barsOf ps) carried (endAfter h m (carried .last)) done 0 run (drop done ss) in (f ≡ r .0) × (left ≡ r .1) → PartFits t n sheet done f left
-  part-fits ready each t n sheet e done past less run some carried is f left made = rw (made .0, made .1, is) (part-of ready each t n sheet e done past less run some)
+  part-fits ready each t n sheet e done past less run some carried is f left made = rw (made .0, made .1, is) (part-of each t n sheet e done past less run some _ (passed-part ready each done past less run))
 
   -- before the first part, and past the last
   pub none-ended : endedTo from ≡ []
