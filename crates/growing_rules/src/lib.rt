@@ -23,7 +23,7 @@ use rule_types::label::pair_a;
 use rule_types::label::pick;
 
 // What a window is tried for, where the source has a closure.
-pub enum Shape {
+enum Shape {
     ThreeMethods,
     Tower,
 }
@@ -123,7 +123,7 @@ fn three_methods(s: &[f64]) -> Label
 // 17: ta_xing. What the ends and the middle's extremes answer is tested before the bodies are scanned, which costs the most.
 
 // The two greatest bodies of a window, and whether no body is NaN.
-pub struct Leaders {
+struct Leaders {
     pub first: f64,
     pub second: f64,
     pub known: bool,

@@ -30,7 +30,7 @@ pub struct Cut {
 }
 
 // The box after the feeds so far, how many of them were accepted and how many refused, and a digest of their verdicts in turn.
-pub struct Fed {
+struct Fed {
     pub after: BarBox,
     pub accepted: u64,
     pub refused: u64,
