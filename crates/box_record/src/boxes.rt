@@ -28,8 +28,8 @@ pub struct Outcome {
     pub verdict: Verdict,
 }
 
-// A box without bars.
-fn fresh(thresholds: Thresholds) -> BarBox
+// A box without bars, with these thresholds, whatever they are: where they are outside their limits, calls on it are refused.
+pub fn fresh(thresholds: Thresholds) -> BarBox
     ensures { λ r. ⌜ r ≡ freshBox thresholds ⌝ }
 {
     let zeros = KeptBar {

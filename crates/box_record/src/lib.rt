@@ -6,5 +6,6 @@ pub mod looks;
 pub use boxes::BarBox;
 pub use boxes::KeptBar;
 pub use boxes::Outcome;
+pub use boxes::fresh;
 pub use boxes::make;
 pub use looks::look;

@@ -3,4 +3,3 @@
 pub mod parts;
 
 pub use parts::feed_parts;
-pub use parts::fresh;

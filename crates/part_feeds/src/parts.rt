@@ -4,30 +4,18 @@ ghost use mathlib.Core.Bool.{cond};
 ghost use Prim.Native.Nat.{_≤_, min};
 ghost use lib.Dec.{ltb};
 ghost use lib.ListN.{length, getD};
-ghost use Rattle.bar_box.specs.Box.{freshBox};
 ghost use Rattle.answers.specs.declared.refusals.Verdict.the-variants.{Accepted};
 ghost use Rattle.tallies.specs.Tally.{Shaped};
 ghost use Rattle.tallies.specs.Feed.{lent, verdictWith, talliedOf, talliedSheet};
 use bar_box::BarBox;
 use bar_box::Outcome;
 use measures::least;
-use recognisers::Thresholds;
 use recognisers::Verdict;
 use recognisers::counts::RECOGNISERS;
 use recognisers::counts::ROW_BYTES;
 use tallies::Tallied;
 use tallies::TallyRow;
 use tallies::feeds::tally_verdict;
-
-// A fresh box with these thresholds, whatever they are: where they are outside their limits, feeds to it are refused.
-pub fn fresh(t: Thresholds) -> BarBox
-    ensures { λ r. ⌜ r ≡ freshBox t ⌝ }
-{
-    let made = bar_box::make(t);
-    let mut b = made.after;
-    b.thresholds = t;
-    b
-}
 
 // The bars of the i-th feed: as many as its size says, no more than are left; past the last size all that are left.
 fn part_size(sizes: &[u32], i: usize, left: usize) -> usize

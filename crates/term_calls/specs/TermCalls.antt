@@ -8,7 +8,7 @@ use Rattle.recognisers.specs.Refusal.{refusalNumber}
 use Rattle.answers.specs.declared.refusals.Verdict.{Verdict, the-variants.Accepted, the-variants.Denied}
 use Rattle.trading_hours.specs.declared.hours.{DayWindow.DayWindow, Hours.Hours}
 use Rattle.trading_hours.specs.Hours.{mostWindows, windowFrom, hoursWith}
-use Rattle.terms.specs.declared.layers.{Layer.Layer, Taken.Taken}
+use Rattle.terms.specs.declared.layers.{Layer.Layer}
 use Rattle.terms.specs.History.{Call, Run, Shut, called, sheetAfter}
 
 -- ---- hours as numbers

@@ -1,6 +1,6 @@
 -- What the calls take in, as the code goes by the verdict: nothing of a refused one; of an accepted run first the bars that end no term bar, and
 -- then the others; of an accepted close the open bar. And what making leaves. Assumes nothing.
-use Prim.Native.Nat.{ℕ, _+_, _≤_}
+use Prim.Native.Nat.{ℕ, _≤_}
 use mathlib.Core.Path.{_≡_, refl, ap, sym, _∙_}
 use mathlib.Core.List.{List, [], _∷_}
 use native.Mathlib.Omega.{arith}
@@ -24,7 +24,7 @@ use Rattle.bar_box.proofs.PartLaws.{rowsFrom, made-valid}
 use Rattle.trading_hours.specs.declared.hours.Hours.{Hours}
 use Rattle.trading_hours.specs.Hours.{withZeros}
 use Rattle.trading_hours.proofs.HourLaws.{term-some}
-use Rattle.term_events.specs.declared.events.{Carried.Carried, Passed.Passed}
+use Rattle.term_events.specs.declared.events.{Passed.Passed}
 use Rattle.term_events.specs.declared.events.OpenBar.{OpenBar, the-variants.Nothing, the-variants.Begun}
 use Rattle.term_events.specs.Events.{Event, Close, nothingYet, carriedWith, openBars, endedOf, carriedOf, minutesOf}
 use Rattle.term_events.specs.Verdicts.{makeVerdict}

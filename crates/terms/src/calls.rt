@@ -10,10 +10,10 @@ ghost use Rattle.recognisers.specs.Refusal.{leaves, verdictNumber, feedVerdict}
 ghost use Rattle.bar_box.specs.Sheet.{rowsOf};
 ghost use Rattle.bar_box.specs.Box.{kept, takenIn, fedOf, sheetOf};
 ghost use Rattle.term_events.specs.declared.events.OpenBar.the-variants.{Nothing};
-ghost use Rattle.term_events.specs.Events.{carriedWith, endedOf, minutesOf};
+ghost use Rattle.term_events.specs.Events.{endedOf, minutesOf};
 ghost use Rattle.term_events.specs.EventSteps.{Ready};
 ghost use Rattle.term_events.specs.Verdicts.{makeVerdict};
-ghost use Rattle.terms.specs.Layer.{layerWith, runVerdictOf, closeVerdictOf, madeOf, ranOf, ranSheet, closedOf, closedSheet};
+ghost use Rattle.terms.specs.Layer.{runVerdictOf, closeVerdictOf, madeOf, ranOf, ranSheet, closedOf, closedSheet};
 ghost use Rattle.terms.specs.TermSteps.{progressOf};
 use crate::layers;
 use crate::layers::Layer;
