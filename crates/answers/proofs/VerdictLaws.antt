@@ -6,30 +6,30 @@ use mathlib.Core.List.{List, ◌∷◌}
 use borrow.Author.Tests.{not-false, eqb-true, ltb-false, eq-eqb, le-ltb}
 use Rattle.thresholds.specs.declared.Thresholds.{Thresholds}
 use Rattle.thresholds.specs.Threshold.{valid_of}
-use Rattle.rule_types.specs.Number.{rowBytes, mostBars}
+use Rattle.rule_types.specs.Number.{row_bytes, most_bars}
 use Rattle.answers.specs.declared.refusals.Verdict.TheVariants.{Accepted, Denied}
-use Rattle.answers.specs.Refusal.{Tried, firstTrue, feedTried, feedVerdict}
+use Rattle.answers.specs.Refusal.{Tried, first_true, feed_tried, feed_verdict}
 
 -- none of refusals 3 to 6 is true
 pub record Fits (t : Thresholds) (n : ℕ) (right : Bool) (prices sheet : ℕ) : Type 0 where
   pub valid : valid_of t ≡ true
   pub whole : prices % 4 ≡ 0
-  pub few : n + prices / 4 ≤ mostBars
+  pub few : n + prices / 4 ≤ most_bars
   pub right-box : right ≡ true
-  pub room : rowBytes * (prices / 4) ≤ sheet
+  pub room : row_bytes * (prices / 4) ≤ sheet
 
 -- where no refusal is true, the first is not and none of the others is
-pub none_true : (x : Tried) (xs : List Tried) → firstTrue (x ∷ xs) ≡ Accepted → (x.met ≡ false) × (firstTrue xs ≡ Accepted)
-unfolding firstTrue
+pub none_true : (x : Tried) (xs : List Tried) → first_true (x ∷ xs) ≡ Accepted → (x.met ≡ false) × (first_true xs ≡ Accepted)
+unfolding first_true
 none_true x xs = go x.met refl
   where
-    go : (m : Bool) → x.met ≡ m → cond m (Denied x.why) (firstTrue xs) ≡ Accepted → (x.met ≡ false) × (firstTrue xs ≡ Accepted)
+    go : (m : Bool) → x.met ≡ m → cond m (Denied x.why) (first_true xs) ≡ Accepted → (x.met ≡ false) × (first_true xs ≡ Accepted)
     go true e none = (cc, cc)
     go false e none = (e, none)
 
 -- an accepted feed meets them
-pub fits : (t : Thresholds) (n : ℕ) (right : Bool) (prices sheet : ℕ) → feedVerdict t n right prices sheet ≡ Accepted → Fits t n right prices sheet
-unfolding feedVerdict feedTried
+pub fits : (t : Thresholds) (n : ℕ) (right : Bool) (prices sheet : ℕ) → feed_verdict t n right prices sheet ≡ Accepted → Fits t n right prices sheet
+unfolding feed_verdict feed_tried
 fits t n right prices sheet none =
     let three = none_true _ _ none in
     let four = none_true _ _ three.1 in
@@ -45,6 +45,6 @@ fits t n right prices sheet none =
     }
 
 -- and one that meets them is accepted
-pub accepts : (t : Thresholds) (n : ℕ) (right : Bool) (prices sheet : ℕ) → Fits t n right prices sheet → feedVerdict t n right prices sheet ≡ Accepted
-unfolding feedVerdict feedTried firstTrue
-accepts t n right prices sheet f = simp (f.valid, eq-eqb (prices % 4) 0 f.whole, le-ltb mostBars (n + prices / 4) f.few, f.right-box, le-ltb sheet (rowBytes * (prices / 4)) f.room)
+pub accepts : (t : Thresholds) (n : ℕ) (right : Bool) (prices sheet : ℕ) → Fits t n right prices sheet → feed_verdict t n right prices sheet ≡ Accepted
+unfolding feed_verdict feed_tried first_true
+accepts t n right prices sheet f = simp (f.valid, eq-eqb (prices % 4) 0 f.whole, le-ltb most_bars (n + prices / 4) f.few, f.right-box, le-ltb sheet (row_bytes * (prices / 4)) f.room)

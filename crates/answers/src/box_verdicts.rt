@@ -1,6 +1,6 @@
 // Which refusal is true of a call on a box, if any.
 ghost use Rattle.std.specs.Prelude.{◌≡◌};
-ghost use Rattle.answers.specs.Refusal.{firstTrue, feedVerdict, checkedTried, lookVerdict};
+ghost use Rattle.answers.specs.Refusal.{first_true, feed_verdict, checked_tried, look_verdict};
 
 use crate::refusals::{Refusal, Verdict};
 use rule_types::counts;
@@ -17,7 +17,7 @@ pub fn checked(
     right: bool,
     sheet: usize,
 ) -> Verdict
-    ensures { result ≡ firstTrue (checkedTried t layer n prices whole right sheet) }
+    ensures { result ≡ first_true (checked_tried t layer n prices whole right sheet) }
 {
     let valid = t.is_valid();
     if !valid {
@@ -47,14 +47,14 @@ pub fn checked(
 
 // The first of the refusals 3 to 6 that is true of a feed to a box that counts n bars; right: what it holds is that of its bars.
 pub fn feed_verdict(t: Thresholds, n: u32, right: bool, prices: usize, sheet: usize) -> Verdict
-    ensures { result ≡ feedVerdict t n right prices sheet }
+    ensures { result ≡ feed_verdict t n right prices sheet }
 {
     checked(t, true, n, prices, true, right, sheet)
 }
 
 // The first of the refusals 1, 2, 3, 5 and 7 that is true of a look at such a box.
 pub fn look_verdict(k: u32, di: u32, t: Thresholds, n: u32, right: bool) -> Verdict
-    ensures { result ≡ lookVerdict k di t n right }
+    ensures { result ≡ look_verdict k di t n right }
 {
     if counts::RECOGNISERS <= k as usize {
         return Verdict::Denied(Refusal::UnknownRecogniser);

@@ -1,7 +1,7 @@
 // Why calls are refused, which calls are, and what they answer. All is proved, nothing is assumed, and no public function has a `requires`: each
 // contract is an equation with a definition of specs/, for every input.
 ghost use Rattle.std.specs.Prelude.{◌≡◌};
-ghost use Rattle.answers.specs.Answer.{answer_in, ordinalIn, pairNumber, result_of};
+ghost use Rattle.answers.specs.Answer.{answer_in, ordinal_in, pair_number, result_of};
 
 pub mod box_verdicts;
 pub mod refusals;
@@ -36,7 +36,7 @@ pub fn answer_in(a: LookAnswer) -> Answer
 
 // The ordinal that a look answers, 0 if it is refused.
 pub fn ordinal_in(a: LookAnswer) -> u32
-    ensures { result ≡ ordinalIn a }
+    ensures { result ≡ ordinal_in a }
 {
     match a {
         LookAnswer::Judged { pair: _, ordinal } => ordinal,
@@ -46,7 +46,7 @@ pub fn ordinal_in(a: LookAnswer) -> u32
 
 // v1 × 256 + v2 of a pair.
 fn pair_number(pair: Pair) -> u32
-    ensures { result ≡ pairNumber pair }
+    ensures { result ≡ pair_number pair }
 {
     let v1 = pair.v1;
     let v2 = pair.v2;

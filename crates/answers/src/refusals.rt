@@ -1,6 +1,6 @@
 // Why a call is refused.
 ghost use Rattle.std.specs.Prelude.{◌≡◌};
-ghost use Rattle.answers.specs.Refusal.{refusalNumber, leaves};
+ghost use Rattle.answers.specs.Refusal.{refusal_number, leaves};
 
 // Why a call is refused, by number. Most calls try theirs in this order; a layer's 12 comes next after 3.
 #[derive(Drop)]
@@ -28,7 +28,7 @@ pub enum Verdict {
 
 // The number of a refusal.
 pub fn refusal_number(r: Refusal) -> u8
-    ensures { result ≡ refusalNumber r }
+    ensures { result ≡ refusal_number r }
 {
     match r {
         Refusal::UnknownRecogniser => 1,

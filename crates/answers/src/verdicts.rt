@@ -1,6 +1,6 @@
 // Which refusal is true of a plain call, if any.
 ghost use Rattle.std.specs.Prelude.{◌≡◌};
-ghost use Rattle.answers.specs.Refusal.{plainVerdict};
+ghost use Rattle.answers.specs.Refusal.{plain_verdict};
 
 use crate::refusals::{Refusal, Verdict};
 use rule_types::counts;
@@ -8,7 +8,7 @@ use thresholds::Thresholds;
 
 // The first of the refusals 1 to 5 that is true of a plain call. whole: what the history was lent in makes whole bars.
 pub fn plain_verdict(k: u32, di: u32, t: Thresholds, whole: bool, count: usize) -> Verdict
-    ensures { result ≡ plainVerdict k di t whole count }
+    ensures { result ≡ plain_verdict k di t whole count }
 {
     if counts::RECOGNISERS <= k as usize {
         return Verdict::Denied(Refusal::UnknownRecogniser);

@@ -12,13 +12,13 @@ use lib.Seq.{take-append_seam, drop-append-add, drop-drop}
 use Rattle.measures.specs.Bar.{Bar}
 use Rattle.measures.specs.Window.{newest}
 use Rattle.held_extremes.specs.declared.HeldExtremes.{HeldExtremes}
-use Rattle.held_extremes.specs.Candidate.{heldBy, held_of}
+use Rattle.held_extremes.specs.Candidate.{held_by, held_of}
 use Rattle.held_extremes.proofs.HeldLaws.{held-near}
 use Rattle.held_extremes.proofs.SameLaws.{held-passes}
-use Rattle.recognisers.specs.Number.{quarterBars, places}
+use Rattle.recognisers.specs.Number.{quarter_bars, places}
 use Rattle.box_record.specs.declared.boxes.KeptBar.{KeptBar}
 use Rattle.box_record.specs.declared.boxes.BarBox.{BarBox}
-use Rattle.bar_box.specs.Box.{numbered, held, kept, laid, heldAfter, isRight, takenIn}
+use Rattle.bar_box.specs.Box.{numbered, held, kept, laid, held_after, is_right, taken_in}
 pub use Rattle.box_record.proofs.RecordLaws.{take_same, newest-few}
 use Rattle.bar_box.proofs.SheetLaws.{newest-append}
 use Rattle.bar_box.proofs.OrdinalLaws.{map-newest, length-numbered, bars-numbered, numbered-append}
@@ -67,22 +67,22 @@ laid-append old h bars =
 -- ---- what is held of the newest 20 bars
 
 -- where bars came
-pub held-some : (was : HeldExtremes) (n : ℕ) (old bars : List Bar) → 0 < length bars → heldAfter was n old bars ≡ held_of (n + length bars) (old ++ bars)
+pub held-some : (was : HeldExtremes) (n : ℕ) (old bars : List Bar) → 0 < length bars → held_after was n old bars ≡ held_of (n + length bars) (old ++ bars)
 held-some was n old [] some = absurd (let z : ⊥ = omega arith in z)
 held-some was n old (x ∷ bars) some = refl
 
 -- 20 of the older bars are enough
-held-append : (m n : ℕ) (old bars : List Bar) → quarterBars ≤ m → held_of n (newest m old ++ bars) ≡ held_of n (old ++ bars)
+held-append : (m n : ℕ) (old bars : List Bar) → quarter_bars ≤ m → held_of n (newest m old ++ bars) ≡ held_of n (old ++ bars)
 unfolding held_of
-held-append m n old bars enough = ap (heldBy n) (newest-append m quarterBars old bars (omega arith))
+held-append m n old bars enough = ap (held_by n) (newest-append m quarter_bars old bars (omega arith))
 
-pub held-after-near : (was : HeldExtremes) (m n : ℕ) (old bars : List Bar) → quarterBars ≤ m → heldAfter was n (newest m old) bars ≡ heldAfter was n old bars
+pub held-after-near : (was : HeldExtremes) (m n : ℕ) (old bars : List Bar) → quarter_bars ≤ m → held_after was n (newest m old) bars ≡ held_after was n old bars
 held-after-near was m n old [] enough = refl
 held-after-near was m n old (x ∷ bars) enough = held-append m (n + length (x ∷ bars)) old (x ∷ bars) enough
 
 -- one run after the other
 held_more : (was : HeldExtremes) (n : ℕ) (old xs ys : List Bar)
-    → heldAfter (heldAfter was n old xs) (n + length xs) (newest places (old ++ xs)) ys ≡ heldAfter was n old (xs ++ ys)
+    → held_after (held_after was n old xs) (n + length xs) (newest places (old ++ xs)) ys ≡ held_after was n old (xs ++ ys)
 held_more was n old xs [] = rw (append-nil xs)
 held_more was n old xs (y ∷ ys) =
     let all = xs ++ (y ∷ ys) in
@@ -98,7 +98,7 @@ module _ (b : BarBox) (all : length b.bars ≡ places) where
   length-held = rw (length-take, all)
 
   -- after bars were taken in, those of the newest 64 of the bars that it kept and of them
-  pub held-taken : (bars : List Bar) → held (takenIn b bars) ≡ newest places (held b ++ numbered b.count bars)
+  pub held-taken : (bars : List Bar) → held (taken_in b bars) ≡ newest places (held b ++ numbered b.count bars)
   held-taken bars =
       let h = held b ++ numbered b.count bars in
       let had = length-held in
@@ -109,16 +109,16 @@ module _ (b : BarBox) (all : length b.bars ≡ places) where
       take_same (laid b.bars h) (b.count + length bars) (length (newest places h)) (omega arith) ∙ take-append_seam (newest places h) (drop (length h) b.bars)
 
   -- the bars of these are the newest 64 of the bars that it kept and of those taken in
-  pub kept-taken : (bars : List Bar) → kept (takenIn b bars) ≡ newest places (kept b ++ bars)
+  pub kept-taken : (bars : List Bar) → kept (taken_in b bars) ≡ newest places (kept b ++ bars)
   kept-taken bars =
       let f : KeptBar → Bar = λ r. r.bar in
       rw (held-taken bars, map-newest f places (held b ++ numbered b.count bars), map-append f (held b) (numbered b.count bars), bars-numbered b.count bars)
 
-  extremes-append : (xs ys : List Bar) → (takenIn (takenIn b xs) ys).extremes ≡ (takenIn b (xs ++ ys)).extremes
+  extremes-append : (xs ys : List Bar) → (taken_in (taken_in b xs) ys).extremes ≡ (taken_in b (xs ++ ys)).extremes
   extremes-append xs ys = rw (kept-taken xs) (held_more b.extremes b.count (kept b) xs ys)
 
   -- two runs taken in, one after the other, are taken in as one
-  pub taken-append : (xs ys : List Bar) → takenIn (takenIn b xs) ys ≡ takenIn b (xs ++ ys)
+  pub taken-append : (xs ys : List Bar) → taken_in (taken_in b xs) ys ≡ taken_in b (xs ++ ys)
   taken-append xs ys =
       let n = b.count in
       let first = numbered n xs in
@@ -126,21 +126,21 @@ module _ (b : BarBox) (all : length b.bars ≡ places) where
       rw (extremes-append xs ys, held-taken xs, laid-append b.bars (held b ++ first) second, append_assoc (held b) first second, ← numbered-append n xs ys, length-append xs ys) (rw (add_assoc n))
 
   -- taking no bar in leaves the box
-  pub taken_none : takenIn b [] ≡ b
+  pub taken_none : taken_in b [] ≡ b
   unfolding numbered
   taken_none =
       let had = length-held in
       rw (add-zero, append-nil (held b), newest-few places (held b) (omega arith), drop-same b.bars (length (held b)) b.count (omega arith), take-append-drop b.count b.bars)
 
   -- what a box holds after bars came is right, whatever it held before
-  right-some : (bars : List Bar) → 0 < length bars → isRight (takenIn b bars) ≡ true
-  unfolding isRight
+  right-some : (bars : List Bar) → 0 < length bars → is_right (taken_in b bars) ≡ true
+  unfolding is_right
   right-some bars some =
       let n = b.count + length bars in
       let h = kept b ++ bars in
       rw (held-some b.extremes b.count (kept b) bars some, kept-taken bars, held-near n places h (omega arith)) (held-passes n h)
 
   -- so that what was right stays so
-  pub right-taken : isRight b ≡ true → (bars : List Bar) → isRight (takenIn b bars) ≡ true
-  right-taken right [] = subst (λ (x : BarBox). isRight x ≡ true) (sym taken_none) right
+  pub right-taken : is_right b ≡ true → (bars : List Bar) → is_right (taken_in b bars) ≡ true
+  right-taken right [] = subst (λ (x : BarBox). is_right x ≡ true) (sym taken_none) right
   right-taken right (x ∷ bars) = right-some (x ∷ bars) (omega arith)

@@ -9,22 +9,22 @@ use native.Mathlib.Nat.{zero-add}
 use lib.ListN.{length, drop, replicate}
 use lib.Ieee.{le, of_bits}
 use Rattle.measures.specs.Bar.{Bar}
-use Rattle.measures.specs.Window.{newest, backOf}
-use Rattle.measures.proofs.WindowLaws.{upTo-in, upTo-out}
+use Rattle.measures.specs.Window.{newest, back_of}
+use Rattle.measures.proofs.WindowLaws.{up_to-in, up_to-out}
 use Rattle.held_extremes.specs.Candidate.{held_of}
 use Rattle.held_extremes.proofs.HeldLaws.{held-extremes}
-use Rattle.recognisers.specs.Threshold.{Thresholds, standardSet, valid_of}
+use Rattle.recognisers.specs.Threshold.{Thresholds, standard_set, valid_of}
 use Rattle.answers.specs.declared.refusals.Refusal.TheVariants.{BadThreshold}
 use Rattle.answers.specs.declared.refusals.Verdict.TheVariants.{Accepted, Denied}
 use Rattle.answers.specs.declared.LookAnswer.TheVariants.{Judged}
-use Rattle.recognisers.specs.Number.{recognisers, rowBytes, gated, places, farthestLook}
-use Rattle.recognisers.specs.Table.{tableRow, pair_at, codes_of}
-use Rattle.recognisers.specs.Refusal.{firstTrue}
+use Rattle.recognisers.specs.Number.{recognisers, row_bytes, gated, places, farthest_look}
+use Rattle.recognisers.specs.Table.{table_row, pair_at, codes_of}
+use Rattle.recognisers.specs.Refusal.{first_true}
 use Rattle.recognisers.proofs.TableLaws.{no-bar}
 use Rattle.box_record.specs.declared.boxes.BarBox.{BarBox}
 use Rattle.bar_box.specs.Sheet.{rows_of}
-use Rattle.bar_box.specs.Box.{keptBar, numbered, takenIn, emptyPlace, emptyPlaces, freshBox, madeBy, made_of, lookAnswerOf}
-use Rattle.bar_box.specs.History.{Feed, historyAfter, boxAfter, joinedRows, printed, barWith, inPlace, InLimits, Within, Holds, NoBars, Fresh, Demand3}
+use Rattle.bar_box.specs.Box.{kept_bar, numbered, taken_in, empty_place, empty_places, fresh_box, made_by, made_of, look_answer_of}
+use Rattle.bar_box.specs.History.{Feed, history_after, box_after, joined_rows, printed, bar_with, in_place, InLimits, Within, Holds, NoBars, Fresh, Demand3}
 use Rattle.bar_box.proofs.SheetLaws.{length-rows}
 use Rattle.bar_box.proofs.OrdinalLaws.{length-numbered, place_at}
 use Rattle.bar_box.proofs.BoxLaws.{drop-replicate}
@@ -42,22 +42,22 @@ back_from n m d le few = omega arith
 module _ (b : BarBox) (start : NoBars b) (fs : List Feed) where
   -- "The joined history is the history after the last feed."
   abbrev joined : List Bar
-  joined = historyAfter b.thresholds [] fs
+  joined = history_after b.thresholds [] fs
 
   -- it has no more than 1,000,000 bars, and none if the thresholds are outside their limits
   joined-sound : Sound b.thresholds joined
   joined-sound = sound-after b.thresholds [] fs (sound_empty b.thresholds)
 
   -- the box is the one that the joined history leaves
-  joined-box : boxAfter b fs ≡ takenIn b joined
+  joined-box : box_after b fs ≡ taken_in b joined
   joined-box = box-after b start fs
 
   -- the joined rows are those of the joined history
-  joined-rows : joinedRows b fs ≡ rows_of b.thresholds 0 [] joined
+  joined-rows : joined_rows b fs ≡ rows_of b.thresholds 0 [] joined
   joined-rows = rows-after b start fs
 
   -- the box, place for place
-  whole-box : boxAfter b fs
+  whole-box : box_after b fs
       ≡ record {
         thresholds = b.thresholds;
         count = length joined;
@@ -68,29 +68,29 @@ module _ (b : BarBox) (start : NoBars b) (fs : List Feed) where
 
   -- the i-th kept place
   kept-place : (i : ℕ) → 1 ≤ i → i ≤ min (length joined) places
-      → let ordinal = length joined - min (length joined) places + i in inPlace (boxAfter b fs) i ≡ keptBar (barWith joined ordinal) ordinal
+      → let ordinal = length joined - min (length joined) places + i in in_place (box_after b fs) i ≡ kept_bar (bar_with joined ordinal) ordinal
   kept-place i one within = rw whole-box (place_at joined (drop (length joined) b.bars) i one within)
 
   -- a look gives the pair over the joined history, and the ordinal of the bar that it judges
-  look-joined : (di k : ℕ) → Within joined di k → lookAnswerOf (boxAfter b fs) k di ≡ Judged (pair_at k b.thresholds (length joined) joined di) (length joined - di + 1)
+  look-joined : (di k : ℕ) → Within joined di k → look_answer_of (box_after b fs) k di ≡ Judged (pair_at k b.thresholds (length joined) joined di) (length joined - di + 1)
   look-joined di k (limits, within) =
-      rw joined-box (look-ordinal b start joined k di (joined-sound.valid (omega (arith, limits, within))) joined-sound.few limits ∙ rw (upTo-in (length joined) di limits.0 within))
+      rw joined-box (look-ordinal b start joined k di (joined-sound.valid (omega (arith, limits, within))) joined-sound.few limits ∙ rw (up_to-in (length joined) di limits.0 within))
 
-  look-beyond : valid_of b.thresholds ≡ true → (di k : ℕ) → InLimits di k → length joined < di → lookAnswerOf (boxAfter b fs) k di ≡ Judged (tableRow k).short 0
+  look-beyond : valid_of b.thresholds ≡ true → (di k : ℕ) → InLimits di k → length joined < di → look_answer_of (box_after b fs) k di ≡ Judged (table_row k).short 0
   look-beyond valid di k limits beyond =
-      let none = upTo-out (length joined) di (inr beyond) in
+      let none = up_to-out (length joined) di (inr beyond) in
       rw joined-box (look-ordinal b start joined k di valid joined-sound.few limits ∙ rw (none, no-bar k b.thresholds (length joined) joined di limits.2 none))
 
   -- that bar, and its place
-  judged-bar : (di : ℕ) → 1 ≤ di → di ≤ length joined → barWith joined (length joined - di + 1) ≡ backOf joined di
-  unfolding backOf
+  judged-bar : (di : ℕ) → 1 ≤ di → di ≤ length joined → bar_with joined (length joined - di + 1) ≡ back_of joined di
+  unfolding back_of
   judged-bar di one within =
       let n = length joined in
       let at : n - di + 1 - 1 ≡ n - min di n = omega arith in
       rw at
 
-  judged-place : (di : ℕ) → 1 ≤ di → di ≤ farthestLook → di ≤ length joined
-      → inPlace (boxAfter b fs) (min (length joined) places - di + 1) ≡ keptBar (backOf joined di) (length joined - di + 1)
+  judged-place : (di : ℕ) → 1 ≤ di → di ≤ farthest_look → di ≤ length joined
+      → in_place (box_after b fs) (min (length joined) places - di + 1) ≡ kept_bar (back_of joined di) (length joined - di + 1)
   judged-place di one near within =
       let n = length joined in
       let m = min n places in
@@ -98,15 +98,15 @@ module _ (b : BarBox) (start : NoBars b) (fs : List Feed) where
 
   -- the pair at an offset is the printed one of the bar that it judges, of all but 12
   printed-pair : (di k : ℕ) → 1 ≤ di → di ≤ length joined → k < recognisers → (k ≡ gated → ⊥)
-      → codes_of (pair_at k b.thresholds (length joined) joined di ∷ []) ≡ printed (joinedRows b fs) (length joined - di) k
+      → codes_of (pair_at k b.thresholds (length joined) joined di ∷ []) ≡ printed (joined_rows b fs) (length joined - di) k
   printed-pair di k one within known other =
       let t = b.thresholds in
       let n = length joined in
-      let up-to-it = pair-up-to joined di (n - di + 1) (upTo-in n di one within) k t other in
+      let up-to-it = pair-up-to joined di (n - di + 1) (up_to-in n di one within) k t other in
       rw (joined-rows, pair-in t joined (n - di) k (omega arith) known, up-to-it)
 
   -- demand 3 for this box and these feeds
-  holds_after : (sheet : List ℕ) → rowBytes * length joined ≤ length sheet → Holds b fs joined sheet
+  holds_after : (sheet : List ℕ) → row_bytes * length joined ≤ length sheet → Holds b fs joined sheet
   unfolding codes_of
   holds_after sheet room =
       let t = b.thresholds in
@@ -146,42 +146,42 @@ module _ (b : BarBox) (start : NoBars b) (fs : List Feed) where
       }
 
 -- the same joined history in other feeds
-same-cuts : (b : BarBox) → NoBars b → (fs gs : List Feed) → historyAfter b.thresholds [] fs ≡ historyAfter b.thresholds [] gs
-    → (boxAfter b fs ≡ boxAfter b gs) × (joinedRows b fs ≡ joinedRows b gs)
+same-cuts : (b : BarBox) → NoBars b → (fs gs : List Feed) → history_after b.thresholds [] fs ≡ history_after b.thresholds [] gs
+    → (box_after b fs ≡ box_after b gs) × (joined_rows b fs ≡ joined_rows b gs)
 same-cuts b start fs gs same = (rw (joined-box b start fs, joined-box b start gs, same), rw (joined-rows b start fs, joined-rows b start gs, same))
 
 -- ---- the box that making gives
 
 -- the standard set is inside the limits
-pub standard-valid : valid_of standardSet ≡ true
-unfolding valid_of standardSet le of_bits
+pub standard-valid : valid_of standard_set ≡ true
+unfolding valid_of standard_set le of_bits
 standard-valid = refl
 
 -- "A fresh box has no bars and its thresholds"
-pub fresh-none : (t : Thresholds) → NoBars (freshBox t)
-unfolding emptyPlaces
+pub fresh-none : (t : Thresholds) → NoBars (fresh_box t)
+unfolding empty_places
 fresh-none t = record { none = refl; right = refl; all-places = refl }
 
 -- by whether the thresholds are inside their limits: "a refused box-making returns a fresh box with the standard set"
-made_by : (t : Thresholds) (v : Bool) → valid_of t ≡ v → Fresh t (madeBy (cond (not v) (Denied BadThreshold) Accepted) t)
-unfolding emptyPlaces
+made_by : (t : Thresholds) (v : Bool) → valid_of t ≡ v → Fresh t (made_by (cond (not v) (Denied BadThreshold) Accepted) t)
+unfolding empty_places
 made_by t true e = record { no-bars = fresh-none t; thresholds = rw e; valid = e; zeros = refl }
-made_by t false e = record { no-bars = fresh-none standardSet; thresholds = rw e; valid = standard-valid; zeros = refl }
+made_by t false e = record { no-bars = fresh-none standard_set; thresholds = rw e; valid = standard-valid; zeros = refl }
 
 -- for any thresholds
 made : (t : Thresholds) → Fresh t (made_of t).after
-unfolding made_of firstTrue
+unfolding made_of first_true
 made t = made_by t (valid_of t) refl
 
 -- "and zeros where there are fewer"
 zeros-after : (t : Thresholds) (fs : List Feed)
     → let b = (made_of t).after in
-    let h = historyAfter b.thresholds [] fs in (boxAfter b fs).bars ≡ newest places (numbered 0 h) ++ replicate (places - length h) emptyPlace
+    let h = history_after b.thresholds [] fs in (box_after b fs).bars ≡ newest places (numbered 0 h) ++ replicate (places - length h) empty_place
 zeros-after t fs =
     let m = made t in
     let b = (made_of t).after in
     let h = joined b m.no-bars fs in
-    ap (λ x. x.bars) (whole-box b m.no-bars fs) ∙ rw m.zeros (ap (λ x. newest places (numbered 0 h) ++ x) (drop-replicate places (length h) emptyPlace))
+    ap (λ x. x.bars) (whole-box b m.no-bars fs) ∙ rw m.zeros (ap (λ x. newest places (numbered 0 h) ++ x) (drop-replicate places (length h) empty_place))
 
 -- ---- demand 3, "said of the whole list at once"
 

@@ -9,14 +9,14 @@ use borrow.Rule.Slice.PartMut.{put_mid}
 use lib.ListN.{length, take, drop, length-take, length-drop, drop_of_length-le}
 use lib.Seq.{take_all, drop-drop}
 use lib.Ieee.{Float}
-use Rattle.measures.specs.Bar.{Bar, barsOf, overlay}
+use Rattle.measures.specs.Bar.{Bar, bars_of, overlay}
 use Rattle.recognisers.specs.Threshold.{Thresholds, valid_of}
 use Rattle.answers.specs.declared.refusals.Verdict.TheVariants.{Accepted}
-use Rattle.recognisers.specs.Number.{places, rowBytes}
-use Rattle.recognisers.specs.Refusal.{firstTrue}
+use Rattle.recognisers.specs.Number.{places, row_bytes}
+use Rattle.recognisers.specs.Refusal.{first_true}
 use Rattle.box_record.specs.declared.boxes.BarBox.{BarBox}
 use Rattle.bar_box.specs.Sheet.{rows_of}
-use Rattle.bar_box.specs.Box.{freshBox, made_of, kept, takenIn, verdictOf, fedOf, sheetOf}
+use Rattle.bar_box.specs.Box.{fresh_box, made_of, kept, taken_in, verdict_of, fed_of, sheet_of}
 use Rattle.measures.proofs.Overlay.{overlay-more}
 use Rattle.bar_box.proofs.SheetLaws.{length-rows, rows_append, rows-newest}
 use Rattle.bar_box.proofs.BoxLaws.{kept-taken}
@@ -50,37 +50,37 @@ overlay-rest s at xs =
 abbrev pub rows_from : BarBox → List Bar → List ℕ
 rows_from b bars = rows_of b.thresholds b.count (kept b) bars
 
-module _ (b : BarBox) (ps : List Float) (sheet : List ℕ) (e : verdictOf b (length ps) (length sheet) ≡ Accepted) where
+module _ (b : BarBox) (ps : List Float) (sheet : List ℕ) (e : verdict_of b (length ps) (length sheet) ≡ Accepted) where
   -- the box with the bars taken in
-  pub fed-box : (fedOf b ps (length sheet)).after ≡ takenIn b (barsOf ps)
-  unfolding fedOf
+  pub fed-box : (fed_of b ps (length sheet)).after ≡ taken_in b (bars_of ps)
+  unfolding fed_of
   fed-box = simp e
 
   -- the sheet with their rows
-  pub fed-sheet : sheetOf b ps sheet ≡ overlay sheet 0 (rows_from b (barsOf ps))
-  unfolding sheetOf
+  pub fed-sheet : sheet_of b ps sheet ≡ overlay sheet 0 (rows_from b (bars_of ps))
+  unfolding sheet_of
   fed-sheet = simp e
 
 -- with thresholds inside their limits making gives a fresh box with them
-pub made-valid : (t : Thresholds) → valid_of t ≡ true → (made_of t).after ≡ freshBox t
-unfolding made_of firstTrue
+pub made-valid : (t : Thresholds) → valid_of t ≡ true → (made_of t).after ≡ fresh_box t
+unfolding made_of first_true
 made-valid t e = simp e
 
 -- ---- one part after the other
 
 module _ (b : BarBox) (all : length b.bars ≡ places) where
   -- the rows of both parts are those of the first, and then those of the second after it
-  pub rows-parts : (xs ys : List Bar) → rows_from b (xs ++ ys) ≡ rows_from b xs ++ rows_from (takenIn b xs) ys
+  pub rows-parts : (xs ys : List Bar) → rows_from b (xs ++ ys) ≡ rows_from b xs ++ rows_from (taken_in b xs) ys
   rows-parts xs ys =
       let t = b.thresholds in
       let h = kept b ++ xs in
       rw (kept-taken b all xs, rows-newest places (omega arith) t (b.count + length xs) h ys) (rows_append t b.count (kept b) xs ys)
 
   -- on a sheet the second part's stand behind the first's
-  pub rows_both : (xs ys : List Bar) (s : List ℕ) (row : ℕ) → row ≡ length xs → rowBytes * (length xs + length ys) ≤ length s
-      → overlay (overlay s 0 (rows_from b xs)) (rowBytes * row) (rows_from (takenIn b xs) ys) ≡ overlay s 0 (rows_from b (xs ++ ys))
+  pub rows_both : (xs ys : List Bar) (s : List ℕ) (row : ℕ) → row ≡ length xs → row_bytes * (length xs + length ys) ≤ length s
+      → overlay (overlay s 0 (rows_from b xs)) (row_bytes * row) (rows_from (taken_in b xs) ys) ≡ overlay s 0 (rows_from b (xs ++ ys))
   rows_both xs ys s row at room =
       let first = length-rows b.thresholds b.count (kept b) xs in
-      let after = takenIn b xs in
+      let after = taken_in b xs in
       let second = length-rows after.thresholds after.count (kept after) ys in
-      overlay-more s 0 (rows_from b xs) (rows_from after ys) (rowBytes * row) (omega arith) (omega arith) ∙ rw (rows-parts xs ys)
+      overlay-more s 0 (rows_from b xs) (rows_from after ys) (row_bytes * row) (omega arith) (omega arith) ∙ rw (rows-parts xs ys)

@@ -14,22 +14,22 @@ use Rattle.held_extremes.specs.declared.HeldExtremes.{HeldExtremes}
 use Rattle.recognisers.specs.Number.{places}
 use Rattle.box_record.specs.declared.boxes.KeptBar.{KeptBar}
 use Rattle.box_record.specs.declared.boxes.BarBox.{BarBox}
-use Rattle.bar_box.specs.Box.{numbered, held, laid, takenIn}
+use Rattle.bar_box.specs.Box.{numbered, held, laid, taken_in}
 use Rattle.measures.proofs.Overlay.{overlay-none, overlay-copy, overlay-more}
 use Rattle.bar_box.proofs.OrdinalLaws.{length-numbered}
 use Rattle.bar_box.proofs.SeamLaws.{laid-places}
 
 -- a box with another count
-abbrev pub withCount : BarBox → ℕ → BarBox
-withCount b n = record { thresholds = b.thresholds; count = n; extremes = b.extremes; bars = b.bars }
+abbrev pub with_count : BarBox → ℕ → BarBox
+with_count b n = record { thresholds = b.thresholds; count = n; extremes = b.extremes; bars = b.bars }
 
 -- a box with other places
-abbrev pub withBars : BarBox → List KeptBar → BarBox
-withBars b bars = record { thresholds = b.thresholds; count = b.count; extremes = b.extremes; bars = bars }
+abbrev pub with_bars : BarBox → List KeptBar → BarBox
+with_bars b bars = record { thresholds = b.thresholds; count = b.count; extremes = b.extremes; bars = bars }
 
 -- a box that holds other extremes
-abbrev pub withExtremes : BarBox → HeldExtremes → BarBox
-withExtremes b h = record { thresholds = b.thresholds; count = b.count; extremes = h; bars = b.bars }
+abbrev pub with_extremes : BarBox → HeldExtremes → BarBox
+with_extremes b h = record { thresholds = b.thresholds; count = b.count; extremes = h; bars = b.bars }
 
 -- the first loop moves no others than the bars that stay, leaves a place ahead of them, and moves some only if they move by one place
 pub by_one : (gone stay near : ℕ) → near ≡ cond (eqb gone 1) stay 0 → (near ≤ stay) × (near ≤ stay + gone - 1) × ((j : ℕ) → j < near → gone ≡ 1)
@@ -90,12 +90,12 @@ module _ {A : Type 0} where
 
 -- the places after the loops of a feed: the bars that stay moved to the front, j of them and then the others, and the newest lent bars behind
 pub places-taken : (b : BarBox) → length b.bars ≡ places → (bars : List Bar) (kept n some stay j : ℕ) (holds : HeldExtremes) (second third fourth : BarBox)
-    → holds ≡ (takenIn b bars).extremes
+    → holds ≡ (taken_in b bars).extremes
     → kept ≡ min b.count places → n ≡ length bars → some ≡ min n places → stay ≡ min kept (places - some) → j ≤ stay
-    → second ≡ withBars (withExtremes b holds) (shifted b.bars 0 (kept - stay) j)
-    → third ≡ withBars second (shifted second.bars j (kept - stay) stay)
-    → fourth ≡ withBars third (overlay third.bars stay (take some (drop (n - some) (numbered b.count bars))))
-    → withCount fourth (b.count + n) ≡ takenIn b bars
+    → second ≡ with_bars (with_extremes b holds) (shifted b.bars 0 (kept - stay) j)
+    → third ≡ with_bars second (shifted second.bars j (kept - stay) stay)
+    → fourth ≡ with_bars third (overlay third.bars stay (take some (drop (n - some) (numbered b.count bars))))
+    → with_count fourth (b.count + n) ≡ taken_in b bars
 places-taken b all bars kept n some stay j holds second third fourth holds-is kept-is n-is some_is stay-is le two three four =
     let rs = numbered b.count bars in
     let size : length rs ≡ n = length-numbered b.count bars ∙ sym n-is in
@@ -103,6 +103,6 @@ places-taken b all bars kept n some stay j holds second third fourth holds-is ke
     let new = take some (drop (n - some) rs) in
     let laid_so : overlay (overlay b.bars 0 (take stay (drop (kept - stay) b.bars))) stay new ≡ laid b.bars (held b ++ rs) =
     rw size at (laid-places b.bars rs b.count kept some stay all kept-is (some_is ∙ rw size) stay-is) in
-    let other = withExtremes b holds in
-    let last : fourth ≡ withBars other (laid b.bars (held b ++ rs)) = four ∙ rw (three, two, moved) (ap (withBars other) laid_so) in
+    let other = with_extremes b holds in
+    let last : fourth ≡ with_bars other (laid b.bars (held b ++ rs)) = four ∙ rw (three, two, moved) (ap (with_bars other) laid_so) in
     rw (last, n-is, holds-is)

@@ -6,9 +6,9 @@ use native.Mathlib.Omega.{arith}
 use native.Mathlib.Numerals.{add-one}
 use lib.ListN.{length, get_or, take, drop, set, length-append, length-drop}
 use lib.Seq.{take-suc, take-add, length-take-le, drop-drop}
-use Rattle.measures.specs.Bar.{Bar, noBar, overlay}
+use Rattle.measures.specs.Bar.{Bar, no_bar, overlay}
 use Rattle.recognisers.specs.Threshold.{Thresholds}
-use Rattle.recognisers.specs.Number.{rowBytes}
+use Rattle.recognisers.specs.Number.{row_bytes}
 use Rattle.recognisers.specs.Label.{Pair, code_of}
 use Rattle.recognisers.specs.Table.{codes_of}
 use Rattle.bar_box.specs.Sheet.{row_of, rows_of}
@@ -37,27 +37,27 @@ overlay-codes ps k d s at place h place_is room =
     ) (simp append_assoc)
 
 -- the row of one bar more, after the first j of the bars behind the first ones
-pub overlay-row : (t : Thresholds) (len : ℕ) (bars : List Bar) (first j : ℕ) (s : List ℕ) (at : ℕ) → first + j < length bars → at + rowBytes * (j + 1) ≤ length s
+pub overlay-row : (t : Thresholds) (len : ℕ) (bars : List Bar) (first j : ℕ) (s : List ℕ) (at : ℕ) → first + j < length bars → at + row_bytes * (j + 1) ≤ length s
     → let old = take first bars in
-    overlay (overlay s at (rows_of t len old (take j (drop first bars)))) (at + rowBytes * j) (row_of t (len + j + 1) (take (first + j + 1) bars))
+    overlay (overlay s at (rows_of t len old (take j (drop first bars)))) (at + row_bytes * j) (row_of t (len + j + 1) (take (first + j + 1) bars))
     ≡ overlay s at (rows_of t len old (take (j + 1) (drop first bars)))
 overlay-row t len bars first j s at within room =
     let old = take first bars in
     let new = drop first bars in
-    let b = get_or new j noBar in
+    let b = get_or new j no_bar in
     let m : length new ≡ length bars - first = length-drop first bars in
-    let one_more : take (j + 1) new ≡ take j new ++ (b ∷ []) = rw (add-one j) (take-suc new j noBar (omega arith)) in
+    let one_more : take (j + 1) new ≡ take j new ++ (b ∷ []) = rw (add-one j) (take-suc new j no_bar (omega arith)) in
     let j-bars : length (take j new) ≡ j = length-take-le j new (omega arith) in
     let sum : first + j + 1 ≡ first + (j + 1) = omega arith in
     let history : take (first + j + 1) bars ≡ old ++ take j new ++ (b ∷ []) = rw (sum, take-add first (j + 1) bars, one_more) (sym (append_assoc old (take j new) (b ∷ []))) in
     let size = length-rows t len old (take j new) in
     let row-size = length-row t (len + j + 1) (old ++ take j new ++ (b ∷ [])) in
     rw (history, one_more, rows_append t len old (take j new) (b ∷ []), j-bars, rows-one t (len + j) (old ++ take j new) b)
-    (overlay-more s at (rows_of t len old (take j new)) (row_of t (len + j + 1) (old ++ take j new ++ (b ∷ []))) (at + rowBytes * j) (omega arith) (omega arith))
+    (overlay-more s at (rows_of t len old (take j new)) (row_of t (len + j + 1) (old ++ take j new ++ (b ∷ []))) (at + row_bytes * j) (omega arith) (omega arith))
 
 -- the rows of k bars more
-pub rows-meet : (t : Thresholds) (len : ℕ) (bars : List Bar) (first j k : ℕ) (s : List ℕ) (at : ℕ) → first + j + k ≤ length bars → at + rowBytes * (j + k) ≤ length s
-    → overlay (overlay s at (rows_of t len (take first bars) (take j (drop first bars)))) (at + rowBytes * j) (rows_of t (len + j) (take (first + j) bars) (take k (drop (first + j) bars)))
+pub rows-meet : (t : Thresholds) (len : ℕ) (bars : List Bar) (first j k : ℕ) (s : List ℕ) (at : ℕ) → first + j + k ≤ length bars → at + row_bytes * (j + k) ≤ length s
+    → overlay (overlay s at (rows_of t len (take first bars) (take j (drop first bars)))) (at + row_bytes * j) (rows_of t (len + j) (take (first + j) bars) (take k (drop (first + j) bars)))
     ≡ overlay s at (rows_of t len (take first bars) (take (j + k) (drop first bars)))
 rows-meet t len bars first j k s at within room =
     let old = take first bars in
@@ -68,4 +68,4 @@ rows-meet t len bars first j k s at within room =
     let size = length-rows t len old (take j new) in
     let row-size = length-rows t (len + j) (take (first + j) bars) (take k (drop (first + j) bars)) in
     rw (take-add j k new, drop-drop j first bars, rows_append t len old (take j new) (take k (drop (first + j) bars)), j-bars, ← take-add first j bars)
-    (overlay-more s at (rows_of t len old (take j new)) (rows_of t (len + j) (take (first + j) bars) (take k (drop (first + j) bars))) (at + rowBytes * j) (omega arith) (omega arith))
+    (overlay-more s at (rows_of t len old (take j new)) (rows_of t (len + j) (take (first + j) bars) (take k (drop (first + j) bars))) (at + row_bytes * j) (omega arith) (omega arith))

@@ -1,12 +1,12 @@
 // A feed.
 ghost use Rattle.std.specs.Prelude.{◌≡◌, cond, ◌+◌, ◌*◌, ◌≤◌, ◌<◌, eqb, leb, length, take};
-ghost use Rattle.held_extremes.specs.Candidate.{held_of, sameHeld};
-ghost use Rattle.held_extremes.specs.CandidateSteps.{nextHeld};
-ghost use Rattle.measures.specs.Bar.{barsOf, overlay};
-ghost use Rattle.recognisers.specs.Number.{rowBytes};
-ghost use Rattle.recognisers.specs.Refusal.{verdictNumber, leaves, feedVerdict};
+ghost use Rattle.held_extremes.specs.Candidate.{held_of, same_held};
+ghost use Rattle.held_extremes.specs.CandidateSteps.{next_held};
+ghost use Rattle.measures.specs.Bar.{bars_of, overlay};
+ghost use Rattle.recognisers.specs.Number.{row_bytes};
+ghost use Rattle.recognisers.specs.Refusal.{verdict_number, leaves, feed_verdict};
 ghost use Rattle.bar_box.specs.Sheet.{rows_of, before};
-ghost use Rattle.bar_box.specs.Box.{heldAfter, verdictOf, fedOf, sheetOf};
+ghost use Rattle.bar_box.specs.Box.{held_after, verdict_of, fed_of, sheet_of};
 
 use crate::sheets::BEFORE;
 use crate::{runs, sheets};
@@ -22,7 +22,7 @@ use recognisers::{Thresholds, Verdict};
 // bar by what was held, of a few by the run, of more by the lent bars alone.
 fn held_after(was: HeldExtremes, count: u32, n: usize, run: &[f64], prices: &[f64]) -> HeldExtremes
     requires { count + n ≤ 4294967295 }
-    ensures { result ≡ cond (eqb n 0) was (cond (eqb n 1) (nextHeld was (count + 1) (barsOf run.now)) (cond (leb n before) (held_of (count + n) (barsOf run.now)) (held_of (count + n) (barsOf prices.now)))) }
+    ensures { result ≡ cond (eqb n 0) was (cond (eqb n 1) (next_held was (count + 1) (bars_of run.now)) (cond (leb n before) (held_of (count + n) (bars_of run.now)) (held_of (count + n) (bars_of prices.now)))) }
 {
     if n == 0 {
         was
@@ -47,10 +47,10 @@ fn label(
     prices: &[f64],
     sheet: &mut [u8],
 ) -> HeldExtremes
-    requires { (8 * before ≤ length run.old) × (old ≤ before) × (old ≤ count) × (count + length (barsOf prices.now) ≤ 4294967295) × (rowBytes * length (barsOf prices.now) ≤ length sheet.old)
-        × (0 < length (barsOf prices.now) → was ≡ held_of count (take old (barsOf run.old))) }
-    ensures held { result ≡ heldAfter was count (take old (barsOf run.old)) (barsOf prices.now) }
-    ensures sheet { sheet.new ≡ overlay sheet.old 0 (rows_of t count (take old (barsOf run.old)) (barsOf prices.now)) }
+    requires { (8 * before ≤ length run.old) × (old ≤ before) × (old ≤ count) × (count + length (bars_of prices.now) ≤ 4294967295) × (row_bytes * length (bars_of prices.now) ≤ length sheet.old)
+        × (0 < length (bars_of prices.now) → was ≡ held_of count (take old (bars_of run.old))) }
+    ensures held { result ≡ held_after was count (take old (bars_of run.old)) (bars_of prices.now) }
+    ensures sheet { sheet.new ≡ overlay sheet.old 0 (rows_of t count (take old (bars_of run.old)) (bars_of prices.now)) }
 {
     let n = measures::count(prices);
     let new = least(n, BEFORE);
@@ -101,10 +101,10 @@ fn judge(
     sheet: &mut [u8],
 ) -> Labelled
     requires { (8 * before ≤ length run.old) × (old ≤ before) × (old ≤ count) × (count ≤ 4294967295) }
-    ensures verdict { result.verdict ≡ feedVerdict t count (sameHeld held (held_of count (take old (barsOf run.old)))) (length prices.now) (length sheet.old) }
+    ensures verdict { result.verdict ≡ feed_verdict t count (same_held held (held_of count (take old (bars_of run.old)))) (length prices.now) (length sheet.old) }
     ensures end { result.end ≡ leaves result.verdict 0 (length prices.now) }
-    ensures held { result.held ≡ heldAfter held count (take old (barsOf run.old)) (barsOf (take result.end prices.now)) }
-    ensures sheet { sheet.new ≡ overlay sheet.old 0 (rows_of t count (take old (barsOf run.old)) (barsOf (take result.end prices.now))) }
+    ensures held { result.held ≡ held_after held count (take old (bars_of run.old)) (bars_of (take result.end prices.now)) }
+    ensures sheet { sheet.new ≡ overlay sheet.old 0 (rows_of t count (take old (bars_of run.old)) (bars_of (take result.end prices.now))) }
 {
     let front = 4 * old;
     let right = is_held(held, &run[..front], count);
@@ -120,9 +120,9 @@ fn judge(
 // The places have the newest 64 bars after it and what those past them held. One function goes through them, since a box that is handed on is
 // copied; it is not the public one, since what is inlined goes through the compiler's passes again, and moves all places at once.
 fn take_in(b: BarBox, prices: &[f64], sheet: &mut [u8]) -> Outcome
-    ensures answer { result ≡ fedOf b prices.now (length sheet.old) }
-    ensures sheet { sheet.new ≡ sheetOf b prices.now sheet.old }
-    ensures number { verdictNumber result.verdict ≡ verdictNumber (verdictOf b (length prices.now) (length sheet.old)) }
+    ensures answer { result ≡ fed_of b prices.now (length sheet.old) }
+    ensures sheet { sheet.new ≡ sheet_of b prices.now sheet.old }
+    ensures number { verdict_number result.verdict ≡ verdict_number (verdict_of b (length prices.now) (length sheet.old)) }
 {
     let t = b.thresholds;
     let count = b.count;
@@ -176,9 +176,9 @@ fn take_in(b: BarBox, prices: &[f64], sheet: &mut [u8]) -> Outcome
 
 // Takes the lent bars in and writes a row for each, or refuses and leaves box and sheet as they were: a refused feed takes no bar.
 pub fn feed(b: BarBox, prices: &[f64], sheet: &mut [u8]) -> Outcome
-    ensures answer { result ≡ fedOf b prices.now (length sheet.old) }
-    ensures sheet { sheet.new ≡ sheetOf b prices.now sheet.old }
-    ensures number { verdictNumber result.verdict ≡ verdictNumber (verdictOf b (length prices.now) (length sheet.old)) }
+    ensures answer { result ≡ fed_of b prices.now (length sheet.old) }
+    ensures sheet { sheet.new ≡ sheet_of b prices.now sheet.old }
+    ensures number { verdict_number result.verdict ≡ verdict_number (verdict_of b (length prices.now) (length sheet.old)) }
 {
     take_in(b, prices, sheet)
 }

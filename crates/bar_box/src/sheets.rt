@@ -1,13 +1,13 @@
 // Rows of a sheet.
 ghost use Rattle.std.specs.Prelude.{◌≡◌, ◌+◌, ◌-◌, ◌*◌, ◌≤◌, cond, length, take, drop};
-ghost use Rattle.measures.specs.Bar.{barsOf, overlay};
-ghost use Rattle.measures.specs.Fold.{extremesOf};
+ghost use Rattle.measures.specs.Bar.{bars_of, overlay};
+ghost use Rattle.measures.specs.Fold.{extremes_of};
 ghost use Rattle.measures.specs.Window.{newest};
-ghost use Rattle.recognisers.specs.Number.{rowBytes, quarterBars};
-ghost use Rattle.recognisers.specs.Table.{pairsWith, codes_of};
-ghost use Rattle.sliding_extremes.specs.WindowExtreme.{windowExtremes};
+ghost use Rattle.recognisers.specs.Number.{row_bytes, quarter_bars};
+ghost use Rattle.recognisers.specs.Table.{pairs_with, codes_of};
+ghost use Rattle.sliding_extremes.specs.WindowExtreme.{window_extremes};
 ghost use Rattle.bar_box.specs.Sheet.{rows_of};
-ghost use Rattle.bar_box.specs.SheetSteps.{oneWindow};
+ghost use Rattle.bar_box.specs.SheetSteps.{one_window};
 
 use measures::{Extremes, least};
 use recognisers::counts::{QUARTER_BARS, REACH_BARS, RECOGNISERS, ROW_BYTES};
@@ -21,7 +21,7 @@ pub(crate) const BEFORE: usize = REACH_BARS - 1;
 
 // Writes the codes of pairs from a place of the sheet on.
 fn write_row(pairs: [Pair; RECOGNISERS], sheet: &mut [u8], at: usize)
-    requires { at + rowBytes ≤ length sheet.old }
+    requires { at + row_bytes ≤ length sheet.old }
     ensures { sheet.new ≡ overlay sheet.old at (codes_of pairs) }
 {
     let mut k = 0usize;
@@ -47,8 +47,8 @@ fn label_bar(
     sheet: &mut [u8],
     at: usize,
 )
-    requires { at + rowBytes ≤ length sheet.old }
-    ensures { sheet.new ≡ overlay sheet.old at (codes_of (pairsWith e t len (take end (barsOf prices.now)))) }
+    requires { at + row_bytes ≤ length sheet.old }
+    ensures { sheet.new ≡ overlay sheet.old at (codes_of (pairs_with e t len (take end (bars_of prices.now)))) }
 {
     let pairs = newest_pairs(t, len, measures::first_bars(prices, end), e);
     write_row(pairs, sheet, at);
@@ -56,7 +56,7 @@ fn label_bar(
 
 // The extremes of the windows of twenty bars from a place on; a single bar has those given.
 fn extremes_from(one: bool, e: Extremes, prices: &[f64], at: usize) -> WindowExtremes
-    ensures { result ≡ cond one (oneWindow e) (windowExtremes (barsOf prices.now) at) }
+    ensures { result ≡ cond one (one_window e) (window_extremes (bars_of prices.now) at) }
 {
     if one {
         WindowExtremes {
@@ -79,9 +79,9 @@ pub(crate) fn label_run(
     sheet: &mut [u8],
     at: usize,
 )
-    requires { (first ≤ length (barsOf prices.now)) × ((len + (length (barsOf prices.now) - first) ≤ 4294967295) × (at + rowBytes * (length (barsOf prices.now) - first) ≤ length sheet.old))
-        × (length (barsOf prices.now) - first ≡ 1 → held ≡ extremesOf (newest quarterBars (barsOf prices.now))) }
-    ensures { sheet.new ≡ overlay sheet.old at (rows_of t len (take first (barsOf prices.now)) (drop first (barsOf prices.now))) }
+    requires { (first ≤ length (bars_of prices.now)) × ((len + (length (bars_of prices.now) - first) ≤ 4294967295) × (at + row_bytes * (length (bars_of prices.now) - first) ≤ length sheet.old))
+        × (length (bars_of prices.now) - first ≡ 1 → held ≡ extremes_of (newest quarter_bars (bars_of prices.now))) }
+    ensures { sheet.new ≡ overlay sheet.old at (rows_of t len (take first (bars_of prices.now)) (drop first (bars_of prices.now))) }
 {
     let n = measures::count(prices) - first;
     let mut j = 0usize;

@@ -2,9 +2,9 @@
 // All is proved, nothing is assumed, and no public function has a `requires`: each contract is an equation with a definition of specs/,
 // for every input.
 ghost use Rattle.std.specs.Prelude.{◌≡◌, cond, ◌&&◌};
-ghost use Rattle.measures.specs.Bar.{barsOf};
-ghost use Rattle.rule_types.specs.Label.{pairA};
-ghost use Rattle.bar_rules.specs.BarRule.{changeOf, sanFaV20221115, twoCrow, gateShut, fallingOf, shortShadows, opensWithin, crowPair, threeCrow, alikeOf, gapUpOf, gapDownOf, gapYinYang};
+ghost use Rattle.measures.specs.Bar.{bars_of};
+ghost use Rattle.rule_types.specs.Label.{pair_a};
+ghost use Rattle.bar_rules.specs.BarRule.{change_of, san_fa_v20221115, two_crow, gate_shut, falling_of, short_shadows, opens_within, crow_pair, three_crow, alike_of, gap_up_of, gap_down_of, gap_yin_yang};
 
 use measures::Bar;
 use rule_types::counts::GATE_ABOVE;
@@ -14,13 +14,13 @@ use rule_types::label::{Label, Pair, pair_a, pick, pick_pair};
 
 // The change of close from one bar to the next, in ten thousandths.
 fn change(older: Bar, newer: Bar) -> f64
-    ensures { result ≡ changeOf older newer }
+    ensures { result ≡ change_of older newer }
 {
     measures::abs((older.close - newer.close) / older.close) * 10000.0
 }
 
 pub fn san_fa_v20221115(zdf: u32, b1: Bar, b2: Bar, b3: Bar, b4: Bar, b5: Bar, b6: Bar) -> Pair
-    ensures { result ≡ sanFaV20221115 zdf b1 b2 b3 b4 b5 b6 }
+    ensures { result ≡ san_fa_v20221115 zdf b1 b2 b3 b4 b5 b6 }
 {
     let top = measures::max(measures::max(b2.high, b3.high), b4.high);
     let bottom = measures::min(measures::min(b2.low, b3.low), b4.low);
@@ -48,7 +48,7 @@ pub fn san_fa_v20221115(zdf: u32, b1: Bar, b2: Bar, b3: Bar, b4: Bar, b5: Bar, b
 // 11: two_crow
 
 pub fn two_crow(b1: Bar, b2: Bar, b3: Bar) -> Pair
-    ensures { result ≡ twoCrow b1 b2 b3 }
+    ensures { result ≡ two_crow b1 b2 b3 }
 {
     let c1 = (b3.close > b3.open) & (measures::body(b3) > measures::long_shadow(b3));
     let c2 = (b2.open > b2.close) & (b2.close > b3.high);
@@ -63,14 +63,14 @@ pub fn two_crow(b1: Bar, b2: Bar, b3: Bar) -> Pair
 
 // The gate: len is above 23, and b3 stays below the high quarter of the 20 bars that end third from the newest.
 fn is_gate_shut(len: usize, gate: &[f64], b3: Bar) -> bool
-    ensures { result ≡ gateShut len (barsOf gate.now) b3 }
+    ensures { result ≡ gate_shut len (bars_of gate.now) b3 }
 {
     let e = measures::extremes_of(gate);
     (len > GATE_ABOVE) & (b3.high < e.highest - 0.25 * (e.highest - e.lowest))
 }
 
 fn are_falling(b1: Bar, b2: Bar, b3: Bar) -> bool
-    ensures { result ≡ fallingOf b1 b2 b3 }
+    ensures { result ≡ falling_of b1 b2 b3 }
 {
     (b1.close < b1.open)
         & (b2.close < b2.open)
@@ -82,19 +82,19 @@ fn are_falling(b1: Bar, b2: Bar, b3: Bar) -> bool
 }
 
 fn has_short_shadows(b: Bar) -> bool
-    ensures { result ≡ shortShadows b }
+    ensures { result ≡ short_shadows b }
 {
     (b.close - b.low < 0.5 * (b.open - b.close)) & (b.high - b.open < b.open - b.close)
 }
 
 fn opens_within(newer: Bar, older: Bar) -> bool
-    ensures { result ≡ opensWithin newer older }
+    ensures { result ≡ opens_within newer older }
 {
     (older.close <= newer.open) & (newer.open <= older.open)
 }
 
 fn crow_pair(b1: Bar, b2: Bar, b3: Bar) -> Pair
-    ensures { result ≡ crowPair b1 b2 b3 }
+    ensures { result ≡ crow_pair b1 b2 b3 }
 {
     let newer = opens_within(b1, b2);
     let older = opens_within(b2, b3);
@@ -126,14 +126,14 @@ fn crow_pair(b1: Bar, b2: Bar, b3: Bar) -> Pair
 }
 
 fn have_short_shadows(b1: Bar, b2: Bar, b3: Bar) -> bool
-    ensures { result ≡ (shortShadows b1 && shortShadows b2 && shortShadows b3) }
+    ensures { result ≡ (short_shadows b1 && short_shadows b2 && short_shadows b3) }
 {
     has_short_shadows(b1) & has_short_shadows(b2) & has_short_shadows(b3)
 }
 
 // The shape is tried before the gate, which costs a loop, and its first part before the shadows.
 pub fn three_crow(len: usize, gate: &[f64], b1: Bar, b2: Bar, b3: Bar) -> Pair
-    ensures { result ≡ cond (gateShut len (barsOf gate.now) b3) pairA (threeCrow b1 b2 b3) }
+    ensures { result ≡ cond (gate_shut len (bars_of gate.now) b3) pair_a (three_crow b1 b2 b3) }
 {
     let falling = are_falling(b1, b2, b3);
     if falling {
@@ -152,7 +152,7 @@ pub fn three_crow(len: usize, gate: &[f64], b1: Bar, b2: Bar, b3: Bar) -> Pair
 
 // Whether a gap is there and the two newest bodies are alike, which costs two divisions.
 fn is_alike(gap: bool, b1: Bar, b2: Bar) -> bool
-    ensures { result ≡ (gap && alikeOf b1 b2) }
+    ensures { result ≡ (gap && alike_of b1 b2) }
 {
     if gap {
         measures::pair_variance(measures::body(b1), measures::body(b2)) < 0.2
@@ -162,7 +162,7 @@ fn is_alike(gap: bool, b1: Bar, b2: Bar) -> bool
 }
 
 fn is_gap_up(b1: Bar, b2: Bar, b3: Bar) -> bool
-    ensures { result ≡ gapUpOf b1 b2 b3 }
+    ensures { result ≡ gap_up_of b1 b2 b3 }
 {
     let gap = (measures::min(b1.low, b2.low) > b3.high)
         & (b2.close > b2.open)
@@ -171,7 +171,7 @@ fn is_gap_up(b1: Bar, b2: Bar, b3: Bar) -> bool
 }
 
 fn is_gap_down(b1: Bar, b2: Bar, b3: Bar) -> bool
-    ensures { result ≡ gapDownOf b1 b2 b3 }
+    ensures { result ≡ gap_down_of b1 b2 b3 }
 {
     let gap = (measures::max(b1.high, b2.high) < b3.low)
         & (b2.close < b2.open)
@@ -180,7 +180,7 @@ fn is_gap_down(b1: Bar, b2: Bar, b3: Bar) -> bool
 }
 
 pub fn gap_yin_yang(b1: Bar, b2: Bar, b3: Bar) -> Pair
-    ensures { result ≡ gapYinYang b1 b2 b3 }
+    ensures { result ≡ gap_yin_yang b1 b2 b3 }
 {
     let down = pick(is_gap_down(b1, b2, b3), Label::GapDown, Label::Other);
     Pair {

@@ -7,13 +7,13 @@ use native.Mathlib.Decide.{dec_le}
 use lib.ListN.{length, get_or, take, drop, length-drop, length-map, get_or-map}
 use lib.Seq.{take_all, length-take-le, get_or-drop}
 use lib.Ieee.{Float}
-use Rattle.measures.specs.Bar.{Bar, noBar, barsOf, pricesOf, overlay}
+use Rattle.measures.specs.Bar.{Bar, no_bar, bars_of, prices_of, overlay}
 use Rattle.measures.specs.Window.{newest}
 use Rattle.measures.proofs.PriceLaws.{front-bars}
 use Rattle.measures.proofs.WindowLaws.{drop-take}
 use Rattle.recognisers.specs.Number.{places}
 use Rattle.box_record.specs.declared.boxes.KeptBar.{KeptBar}
-use Rattle.box_record.specs.Box.{keptBar, barsIn}
+use Rattle.box_record.specs.Box.{kept_bar, bars_in}
 
 module _ {A B : Type 0} (f : A → B) where
   pub map-take : (n : ℕ) (xs : List A) → map f (take n xs) ≡ take n (map f xs)
@@ -49,18 +49,18 @@ module _ {A : Type 0} where
   newest-least bars m n e = let at : length bars - n ≡ length bars - m = omega arith in rw at
 
 -- no record
-abbrev pub noKept : KeptBar
-noKept = keptBar noBar 0
+abbrev pub no_kept : KeptBar
+no_kept = kept_bar no_bar 0
 
 -- the i-th of the bars from a place on
-pub bar-at : (rs : List KeptBar) (from i : ℕ) → get_or (drop from (barsIn rs)) i noBar ≡ (get_or rs (from + i) noKept).bar
-bar-at rs from i = get_or-drop from (barsIn rs) i noBar ∙ get_or-map (λ (r : KeptBar). r.bar) rs (from + i) noKept
+pub bar-at : (rs : List KeptBar) (from i : ℕ) → get_or (drop from (bars_in rs)) i no_bar ≡ (get_or rs (from + i) no_kept).bar
+bar-at rs from i = get_or-drop from (bars_in rs) i no_bar ∙ get_or-map (λ (r : KeptBar). r.bar) rs (from + i) no_kept
 
 -- a run whose front has the prices of the last n of the kept bars, where n is all that there are of m: its first n bars are the newest m
 pub kept_run : (s run : List Float) (rs : List KeptBar) (count kept m n : ℕ) → length rs ≡ places → kept ≡ min count places → n ≡ min m kept
-    → run ≡ overlay s 0 (pricesOf (take n (drop (kept - n) (barsIn rs)))) → barsOf (take (4 * n) run) ≡ newest m (barsIn (take count rs))
+    → run ≡ overlay s 0 (prices_of (take n (drop (kept - n) (bars_in rs)))) → bars_of (take (4 * n) run) ≡ newest m (bars_in (take count rs))
 kept_run s run rs count kept m n all kept-is n-is run_is =
-    let bars = barsIn rs in
+    let bars = bars_in rs in
     let size : length bars ≡ places = length-map rs _ ∙ all in
     let few : length (take n (drop (kept - n) bars)) ≡ n = length-take-le n (drop (kept - n) bars) (rw length-drop (omega arith)) in
     let had : length (take kept bars) ≡ kept = length-take-le kept bars (omega arith) in

@@ -1,7 +1,7 @@
 // The box and its making.
 ghost use Rattle.std.specs.Prelude.{◌≡◌, [], ◌∷◌};
-ghost use Rattle.recognisers.specs.Refusal.{badThreshold, firstTrue, verdictNumber};
-ghost use Rattle.box_record.specs.Box.{freshBox, made_of};
+ghost use Rattle.recognisers.specs.Refusal.{bad_threshold, first_true, verdict_number};
+ghost use Rattle.box_record.specs.Box.{fresh_box, made_of};
 
 use held_extremes::{HeldExtremes, held_of};
 use measures::Bar;
@@ -34,7 +34,7 @@ pub struct Outcome {
 
 // A box without bars, with these thresholds, whatever they are: where they are outside their limits, calls on it are refused.
 pub fn fresh(thresholds: Thresholds) -> BarBox
-    ensures { result ≡ freshBox thresholds }
+    ensures { result ≡ fresh_box thresholds }
 {
     let zeros = KeptBar {
         bar: Bar {
@@ -57,7 +57,7 @@ pub fn fresh(thresholds: Thresholds) -> BarBox
 // A fresh box with these thresholds; if they are refused, one with the standard set.
 pub fn make(t: Thresholds) -> Outcome
     ensures answer { result ≡ made_of t }
-    ensures number { verdictNumber result.verdict ≡ verdictNumber (firstTrue (badThreshold t ∷ [])) }
+    ensures number { verdict_number result.verdict ≡ verdict_number (first_true (bad_threshold t ∷ [])) }
 {
     let valid = t.is_valid();
     if valid {

@@ -1,12 +1,12 @@
 // A look, and whether what a box holds is right.
 ghost use Rattle.std.specs.Prelude.{◌≡◌, cond, ◌*◌, min, eqb, length, take, [], ◌∷◌};
-ghost use Rattle.held_extremes.specs.Candidate.{extremesIn};
+ghost use Rattle.held_extremes.specs.Candidate.{extremes_in};
 ghost use Rattle.recognisers.specs.Number.{places};
-ghost use Rattle.recognisers.specs.Table.{pair_at, pairWith, codes_of};
-ghost use Rattle.recognisers.specs.Refusal.{verdictNumber, leaves, lookVerdict, refusalIn, codesIn, answer_in, ordinalIn};
-ghost use Rattle.measures.specs.Bar.{barsOf};
+ghost use Rattle.recognisers.specs.Table.{pair_at, pair_with, codes_of};
+ghost use Rattle.recognisers.specs.Refusal.{verdict_number, leaves, look_verdict, refusal_in, codes_in, answer_in, ordinal_in};
+ghost use Rattle.measures.specs.Bar.{bars_of};
 ghost use Rattle.measures.specs.Window.{up_to, newest};
-ghost use Rattle.box_record.specs.Box.{barsIn, kept, isRight, lookAnswerOf};
+ghost use Rattle.box_record.specs.Box.{bars_in, kept, is_right, look_answer_of};
 
 use crate::boxes::{BarBox, KeptBar};
 use held_extremes::{HeldExtremes, is_held};
@@ -16,7 +16,7 @@ use recognisers::{LookAnswer, Pair, Thresholds, Verdict, counts, table};
 
 // The newest bars that a box keeps, most of them or all if fewer, as a run of prices.
 fn newest_run(count: u32, bars: [KeptBar; counts::PLACES], most: usize) -> [f64; 4 * counts::PLACES]
-    ensures { (length result ≡ 4 * places) × (barsOf (take (4 * min most (min count places)) result) ≡ newest most (barsIn (take count bars))) }
+    ensures { (length result ≡ 4 * places) × (bars_of (take (4 * min most (min count places)) result) ≡ newest most (bars_in (take count bars))) }
 {
     let kept = least(count as usize, counts::PLACES);
     let n = least(most, kept);
@@ -34,7 +34,7 @@ fn newest_run(count: u32, bars: [KeptBar; counts::PLACES], most: usize) -> [f64;
 
 // Whether the extremes and candidates that a box holds are those of its bars.
 pub fn is_right(b: BarBox) -> bool
-    ensures { result ≡ isRight b }
+    ensures { result ≡ is_right b }
 {
     let bars = b.bars;
     let held = b.extremes;
@@ -45,7 +45,7 @@ pub fn is_right(b: BarBox) -> bool
 
 // The pair of a recogniser at an offset of the kept bars, with the box's count for len; at the newest bar by the held extremes.
 fn pair_back(t: Thresholds, count: u32, kept: &[f64], held: HeldExtremes, k: u32, di: u32) -> Pair
-    ensures { result ≡ cond (eqb di 1) (pairWith (extremesIn held) k t count (barsOf kept.now)) (pair_at k t count (barsOf kept.now) di) }
+    ensures { result ≡ cond (eqb di 1) (pair_with (extremes_in held) k t count (bars_of kept.now)) (pair_at k t count (bars_of kept.now) di) }
 {
     if di == 1 {
         let e = Extremes {
@@ -67,10 +67,10 @@ fn judged_ordinal(n: u32, di: u32) -> u32
 
 // The pair of a recogniser at an offset from the newest bar, and the judged bar's ordinal; the box stays.
 pub fn look(b: BarBox, k: u32, di: u32) -> LookAnswer
-    ensures answer { result ≡ lookAnswerOf b k di }
-    ensures number { refusalIn (answer_in result) ≡ verdictNumber (lookVerdict k di b.thresholds b.count (isRight b)) }
-    ensures values { (codesIn (answer_in result) ≡ leaves (lookVerdict k di b.thresholds b.count (isRight b)) [] (codes_of (pair_at k b.thresholds b.count (kept b) di ∷ [])))
-        × (ordinalIn result ≡ leaves (lookVerdict k di b.thresholds b.count (isRight b)) 0 (up_to b.count di)) }
+    ensures answer { result ≡ look_answer_of b k di }
+    ensures number { refusal_in (answer_in result) ≡ verdict_number (look_verdict k di b.thresholds b.count (is_right b)) }
+    ensures values { (codes_in (answer_in result) ≡ leaves (look_verdict k di b.thresholds b.count (is_right b)) [] (codes_of (pair_at k b.thresholds b.count (kept b) di ∷ [])))
+        × (ordinal_in result ≡ leaves (look_verdict k di b.thresholds b.count (is_right b)) 0 (up_to b.count di)) }
 {
     let bars = b.bars;
     let held = b.extremes;

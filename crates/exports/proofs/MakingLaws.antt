@@ -9,19 +9,19 @@ use Rattle.answers.specs.declared.refusals.Verdict.TheVariants.{Accepted, Denied
 use Rattle.trading_hours.specs.declared.hours.Hours.{Hours}
 use Rattle.terms.specs.declared.layers.Taken.{Taken}
 use Rattle.terms.specs.Layer.{made_of}
-use Rattle.term_calls.specs.Numbers.{writtenTo}
-use Rattle.term_calls.specs.TermCalls.{answersOf, sheetThrough}
-use Rattle.exports.specs.TermLists.{termsSheet, termsAnswers}
+use Rattle.term_calls.specs.Numbers.{written_to}
+use Rattle.term_calls.specs.TermCalls.{answers_of, sheet_through}
+use Rattle.exports.specs.TermLists.{terms_sheet, terms_answers}
 
 pub making : (t u : Thresholds) (g h : Hours) (m : ℕ) (made : Taken) → made ≡ made_of t g m → t ≡ u → g ≡ h → made ≡ made_of u h m
 making t u g h m made is same-t same-h = is ∙ rw (same-t, same-h)
 
 module _ (made one : Taken) (is : made ≡ one) (ps : List Float) (ss sizes sheet places : List ℕ) where
-  pub making-refused : (r : Refusal) → made.verdict ≡ Denied r → (sheet ≡ termsSheet one ps ss sizes sheet) × (places ≡ termsAnswers one ps ss sizes sheet places)
-  unfolding termsSheet termsAnswers
+  pub making-refused : (r : Refusal) → made.verdict ≡ Denied r → (sheet ≡ terms_sheet one ps ss sizes sheet) × (places ≡ terms_answers one ps ss sizes sheet places)
+  unfolding terms_sheet terms_answers
   making-refused r e = rw (← is, e) (refl, refl)
 
-  pub making-accepted : made.verdict ≡ Accepted → (then answers : List ℕ) → then ≡ sheetThrough made.after ps ss sheet sizes → answers ≡ writtenTo places (answersOf made.after ps ss sheet sizes)
-      → (then ≡ termsSheet one ps ss sizes sheet) × (answers ≡ termsAnswers one ps ss sizes sheet places)
-  unfolding termsSheet termsAnswers
+  pub making-accepted : made.verdict ≡ Accepted → (then answers : List ℕ) → then ≡ sheet_through made.after ps ss sheet sizes → answers ≡ written_to places (answers_of made.after ps ss sheet sizes)
+      → (then ≡ terms_sheet one ps ss sizes sheet) × (answers ≡ terms_answers one ps ss sizes sheet places)
+  unfolding terms_sheet terms_answers
   making-accepted e then answers is-then is-answers = rw (← is, e) (is-then, is-answers)

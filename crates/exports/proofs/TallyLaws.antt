@@ -8,20 +8,20 @@ use Rattle.box_record.specs.declared.boxes.BarBox.{BarBox}
 use Rattle.bar_box.specs.History.{Feed}
 use Rattle.tallies.specs.declared.table.TallyRow.{TallyRow}
 use Rattle.tallies.specs.declared.feeds.Tallied.{Tallied}
-use Rattle.tallies.specs.Feed.{talliedOf, talliedSheet}
-use Rattle.term_calls.specs.Numbers.{writtenTo}
-use Rattle.exports.specs.Tally.{numbersOf, numbersAfter}
+use Rattle.tallies.specs.Feed.{tallied_of, tallied_sheet}
+use Rattle.term_calls.specs.Numbers.{written_to}
+use Rattle.exports.specs.Tally.{numbers_of, numbers_after}
 
 module _ (a b : BarBox) (s t : List TallyRow) (f : Feed) (same-box : a ≡ b) (same-tally : s ≡ t) where
-  pub tallied-is : (out : Tallied) → out ≡ talliedOf a s f → out ≡ talliedOf b t f
+  pub tallied-is : (out : Tallied) → out ≡ tallied_of a s f → out ≡ tallied_of b t f
   tallied-is out is = is ∙ rw (same-box, same-tally)
 
-  pub sheet-is : (then : List ℕ) → then ≡ talliedSheet a s f → then ≡ talliedSheet b t f
+  pub sheet-is : (then : List ℕ) → then ≡ tallied_sheet a s f → then ≡ tallied_sheet b t f
   sheet-is then is = is ∙ rw (same-box, same-tally)
 
 module _ (out one : Tallied) (is : out ≡ one) (numbers : List ℕ) where
-  pub numbers-refused : (r : Refusal) → out.verdict ≡ Denied r → numbers ≡ numbersAfter numbers one
+  pub numbers-refused : (r : Refusal) → out.verdict ≡ Denied r → numbers ≡ numbers_after numbers one
   numbers-refused r e = rw (← is, e)
 
-  pub numbers-accepted : out.verdict ≡ Accepted → (then : List ℕ) → then ≡ writtenTo numbers (numbersOf out.tally) → then ≡ numbersAfter numbers one
+  pub numbers-accepted : out.verdict ≡ Accepted → (then : List ℕ) → then ≡ written_to numbers (numbers_of out.tally) → then ≡ numbers_after numbers one
   numbers-accepted e then is-then = rw (← is, e) is-then

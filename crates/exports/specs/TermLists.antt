@@ -2,11 +2,11 @@
 use Rattle.std.specs.Prelude.{ℕ, List, Float}
 use Rattle.recognisers.specs.Refusal.{leaves}
 use Rattle.terms.specs.declared.layers.Taken.{Taken}
-use Rattle.term_calls.specs.Numbers.{writtenTo}
-use Rattle.term_calls.specs.TermCalls.{answersOf, sheetThrough}
+use Rattle.term_calls.specs.Numbers.{written_to}
+use Rattle.term_calls.specs.TermCalls.{answers_of, sheet_through}
 
-unfoldable pub termsSheet : Taken → List Float → List ℕ → List ℕ → List ℕ → List ℕ
-termsSheet made prices stamps sizes sheet = leaves made.verdict sheet (sheetThrough made.after prices stamps sheet sizes)
+unfoldable pub terms_sheet : Taken → List Float → List ℕ → List ℕ → List ℕ → List ℕ
+terms_sheet made prices stamps sizes sheet = leaves made.verdict sheet (sheet_through made.after prices stamps sheet sizes)
 
-unfoldable pub termsAnswers : Taken → List Float → List ℕ → List ℕ → List ℕ → List ℕ → List ℕ
-termsAnswers made prices stamps sizes sheet places = leaves made.verdict places (writtenTo places (answersOf made.after prices stamps sheet sizes))
+unfoldable pub terms_answers : Taken → List Float → List ℕ → List ℕ → List ℕ → List ℕ → List ℕ
+terms_answers made prices stamps sizes sheet places = leaves made.verdict places (written_to places (answers_of made.after prices stamps sheet sizes))

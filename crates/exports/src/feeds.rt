@@ -1,10 +1,10 @@
 // A history in feeds, and a look after them.
 ghost use Rattle.std.specs.Prelude.{◌≡◌, length};
-ghost use Rattle.recognisers.specs.Threshold.{thresholdsOf};
-ghost use Rattle.recognisers.specs.Refusal.{verdictNumber, answer_in, ordinalIn};
+ghost use Rattle.recognisers.specs.Threshold.{thresholds_of};
+ghost use Rattle.recognisers.specs.Refusal.{verdict_number, answer_in, ordinal_in};
 ghost use Rattle.recognisers.specs.Export.{result_of};
-ghost use Rattle.bar_box.specs.Box.{freshBox, fedOf, sheetOf};
-ghost use Rattle.exports.specs.Feeds.{lookAfter};
+ghost use Rattle.bar_box.specs.Box.{fresh_box, fed_of, sheet_of};
+ghost use Rattle.exports.specs.Feeds.{look_after};
 
 use crate::numbers::verdict_number;
 use bar_box::{Outcome, fresh};
@@ -13,7 +13,7 @@ use recognisers::{LookAnswer, Thresholds, Verdict, answer_in, answer_number, ord
 
 // A fresh box is fed the prices in feeds of these sizes.
 fn fed(t: Thresholds, sizes: &[u32], prices: &[f64], sheet: &mut [u8]) -> Outcome
-    ensures { (result ≡ fedOf (freshBox t) prices.now (length sheet.old)) × (sheet.new ≡ sheetOf (freshBox t) prices.now sheet.old) }
+    ensures { (result ≡ fed_of (fresh_box t) prices.now (length sheet.old)) × (sheet.new ≡ sheet_of (fresh_box t) prices.now sheet.old) }
 {
     let uncounted = tallies::fresh();
     let fed = feed_parts(fresh(t), false, uncounted, sizes, prices, sheet);
@@ -42,8 +42,8 @@ pub extern "C" fn jcc_feed(
     prices: &[f64],
     sheet: &mut [u8],
 ) -> u32
-    ensures { let b = freshBox (thresholdsOf th0 z2 th2 z3 th3 zdf5 th6 zdf7 th8 zf8 th10 th13 th14) in
-        (result ≡ verdictNumber (fedOf b prices.now (length sheet.old)).verdict) × (sheet.new ≡ sheetOf b prices.now sheet.old) }
+    ensures { let b = fresh_box (thresholds_of th0 z2 th2 z3 th3 zdf5 th6 zdf7 th8 zf8 th10 th13 th14) in
+        (result ≡ verdict_number (fed_of b prices.now (length sheet.old)).verdict) × (sheet.new ≡ sheet_of b prices.now sheet.old) }
 {
     let t = Thresholds::new(
         th0, z2, th2, z3, th3, zdf5, th6, zdf7, th8, zf8, th10, th13, th14,
@@ -62,7 +62,7 @@ fn look_after(
     prices: &[f64],
     sheet: &mut [u8],
 ) -> LookAnswer
-    ensures { (result ≡ lookAfter (fedOf (freshBox t) prices.now (length sheet.old)) recogniser offset) × (sheet.new ≡ sheetOf (freshBox t) prices.now sheet.old) }
+    ensures { (result ≡ look_after (fed_of (fresh_box t) prices.now (length sheet.old)) recogniser offset) × (sheet.new ≡ sheet_of (fresh_box t) prices.now sheet.old) }
 {
     let out = fed(t, sizes, prices, sheet);
     let verdict = out.verdict;
@@ -97,9 +97,9 @@ pub extern "C" fn jcc_look(
     prices: &[f64],
     sheet: &mut [u8],
 ) -> u32
-    ensures { let b = freshBox (thresholdsOf th0 z2 th2 z3 th3 zdf5 th6 zdf7 th8 zf8 th10 th13 th14) in
-        let looked = lookAfter (fedOf b prices.now (length sheet.old)) recogniser offset in
-        (result ≡ result_of (answer_in looked)) × (sheet.new ≡ sheetOf b prices.now sheet.old) }
+    ensures { let b = fresh_box (thresholds_of th0 z2 th2 z3 th3 zdf5 th6 zdf7 th8 zf8 th10 th13 th14) in
+        let looked = look_after (fed_of b prices.now (length sheet.old)) recogniser offset in
+        (result ≡ result_of (answer_in looked)) × (sheet.new ≡ sheet_of b prices.now sheet.old) }
 {
     let t = Thresholds::new(
         th0, z2, th2, z3, th3, zdf5, th6, zdf7, th8, zf8, th10, th13, th14,
@@ -130,9 +130,9 @@ pub extern "C" fn jcc_look_ordinal(
     prices: &[f64],
     sheet: &mut [u8],
 ) -> u32
-    ensures { let b = freshBox (thresholdsOf th0 z2 th2 z3 th3 zdf5 th6 zdf7 th8 zf8 th10 th13 th14) in
-        let looked = lookAfter (fedOf b prices.now (length sheet.old)) recogniser offset in
-        (result ≡ ordinalIn looked) × (sheet.new ≡ sheetOf b prices.now sheet.old) }
+    ensures { let b = fresh_box (thresholds_of th0 z2 th2 z3 th3 zdf5 th6 zdf7 th8 zf8 th10 th13 th14) in
+        let looked = look_after (fed_of b prices.now (length sheet.old)) recogniser offset in
+        (result ≡ ordinal_in looked) × (sheet.new ≡ sheet_of b prices.now sheet.old) }
 {
     let t = Thresholds::new(
         th0, z2, th2, z3, th3, zdf5, th6, zdf7, th8, zf8, th10, th13, th14,

@@ -1,13 +1,13 @@
 // A history in feeds with a tally, and a table as a run of numbers, those of recogniser k from LABELS × k on.
 ghost use Rattle.std.specs.Prelude.{◌≡◌, ◌+◌, ◌*◌, ◌<◌, get_or, replicate};
 ghost use Rattle.recognisers.specs.Number.{recognisers, labels};
-ghost use Rattle.recognisers.specs.Refusal.{verdictNumber};
-ghost use Rattle.recognisers.specs.Threshold.{thresholdsOf};
-ghost use Rattle.bar_box.specs.Box.{freshBox};
-ghost use Rattle.tallies.specs.Tally.{cell_of, gainRow};
-ghost use Rattle.tallies.specs.Feed.{lent, talliedOf, talliedSheet};
-ghost use Rattle.term_calls.specs.Numbers.{writtenTo};
-ghost use Rattle.exports.specs.Tally.{tallyIn, numbersOf, numbersAfter};
+ghost use Rattle.recognisers.specs.Refusal.{verdict_number};
+ghost use Rattle.recognisers.specs.Threshold.{thresholds_of};
+ghost use Rattle.bar_box.specs.Box.{fresh_box};
+ghost use Rattle.tallies.specs.Tally.{cell_of, gain_row};
+ghost use Rattle.tallies.specs.Feed.{lent, tallied_of, tallied_sheet};
+ghost use Rattle.term_calls.specs.Numbers.{written_to};
+ghost use Rattle.exports.specs.Tally.{tally_in, numbers_of, numbers_after};
 
 use crate::numbers::verdict_number;
 use bar_box::fresh;
@@ -24,7 +24,7 @@ const CELLS: usize = LABELS * RECOGNISERS;
 // The row of recogniser k.
 fn row_of(numbers: &[u32], k: usize) -> TallyRow
     requires { k < recognisers }
-    ensures { result.counts ≡ gainRow (λ c. get_or numbers.now (labels * k + c) 0) (replicate labels 0) }
+    ensures { result.counts ≡ gain_row (λ c. get_or numbers.now (labels * k + c) 0) (replicate labels 0) }
 {
     let mut counts = [0u32; LABELS];
     let mut c = 0usize;
@@ -37,7 +37,7 @@ fn row_of(numbers: &[u32], k: usize) -> TallyRow
 
 // The table with these numbers.
 fn table_of(numbers: &[u32]) -> [TallyRow; RECOGNISERS]
-    ensures { result ≡ tallyIn numbers.now }
+    ensures { result ≡ tally_in numbers.now }
 {
     let mut tally = tallies::fresh();
     let mut k = 0usize;
@@ -60,7 +60,7 @@ fn cell(tally: [TallyRow; RECOGNISERS], k: usize, c: usize) -> u32
 
 // Writes the table's numbers, as far as there are places for them.
 fn put(tally: [TallyRow; RECOGNISERS], numbers: &mut [u32])
-    ensures { numbers.new ≡ writtenTo numbers.old (numbersOf tally) }
+    ensures { numbers.new ≡ written_to numbers.old (numbers_of tally) }
 {
     let n = least(numbers.len(), CELLS);
     let mut i = 0usize;
@@ -92,10 +92,10 @@ pub extern "C" fn jcc_tally(
     sheet: &mut [u8],
     numbers: &mut [u32],
 ) -> u32
-    ensures { let b = freshBox (thresholdsOf th0 z2 th2 z3 th3 zdf5 th6 zdf7 th8 zf8 th10 th13 th14) in
-        let tally = tallyIn numbers.old in
+    ensures { let b = fresh_box (thresholds_of th0 z2 th2 z3 th3 zdf5 th6 zdf7 th8 zf8 th10 th13 th14) in
+        let tally = tally_in numbers.old in
         let f = lent prices.now sheet.old in
-        (result ≡ verdictNumber (talliedOf b tally f).verdict) × (sheet.new ≡ talliedSheet b tally f) × (numbers.new ≡ numbersAfter numbers.old (talliedOf b tally f)) }
+        (result ≡ verdict_number (tallied_of b tally f).verdict) × (sheet.new ≡ tallied_sheet b tally f) × (numbers.new ≡ numbers_after numbers.old (tallied_of b tally f)) }
 {
     let t = Thresholds::new(
         th0, z2, th2, z3, th3, zdf5, th6, zdf7, th8, zf8, th10, th13, th14,

@@ -1,10 +1,10 @@
 // Runs and closes to a layer of terms that is made before them.
 ghost use Rattle.std.specs.Prelude.{◌≡◌};
-ghost use Rattle.recognisers.specs.Refusal.{verdictNumber};
-ghost use Rattle.recognisers.specs.Threshold.{thresholdsOf};
+ghost use Rattle.recognisers.specs.Refusal.{verdict_number};
+ghost use Rattle.recognisers.specs.Threshold.{thresholds_of};
 ghost use Rattle.terms.specs.Layer.{made_of};
-ghost use Rattle.term_calls.specs.TermCalls.{hoursIn};
-ghost use Rattle.exports.specs.TermLists.{termsSheet, termsAnswers};
+ghost use Rattle.term_calls.specs.TermCalls.{hours_in};
+ghost use Rattle.exports.specs.TermLists.{terms_sheet, terms_answers};
 
 use crate::numbers::verdict_number;
 use recognisers::{Thresholds, Verdict};
@@ -36,11 +36,11 @@ pub extern "C" fn jcc_terms(
     sheet: &mut [u8],
     answers: &mut [u32],
 ) -> u32
-    ensures { let t = thresholdsOf th0 z2 th2 z3 th3 zdf5 th6 zdf7 th8 zf8 th10 th13 th14 in
-        let made = made_of t (hoursIn hours.now) minutes in
-        (result ≡ verdictNumber made.verdict)
-        × (sheet.new ≡ termsSheet made prices.now stamps.now sizes.now sheet.old)
-        × (answers.new ≡ termsAnswers made prices.now stamps.now sizes.now sheet.old answers.old) }
+    ensures { let t = thresholds_of th0 z2 th2 z3 th3 zdf5 th6 zdf7 th8 zf8 th10 th13 th14 in
+        let made = made_of t (hours_in hours.now) minutes in
+        (result ≡ verdict_number made.verdict)
+        × (sheet.new ≡ terms_sheet made prices.now stamps.now sizes.now sheet.old)
+        × (answers.new ≡ terms_answers made prices.now stamps.now sizes.now sheet.old answers.old) }
 {
     let t = Thresholds::new(
         th0, z2, th2, z3, th3, zdf5, th6, zdf7, th8, zf8, th10, th13, th14,

@@ -6,7 +6,7 @@ use mathlib.Core.List.{List, [], ◌∷◌, map, reverse, reverse_aux, reverse_p
 use lib.Ieee.{Float, lt}
 use Rattle.measures.specs.Bar.{Bar, body_of}
 use Rattle.measures.proofs.Order.{lt-asym}
-use Rattle.growing_rules.specs.GrowingRule.{insertOf, bodiesDown, bodiesUp, NonFalling, BodyOrder}
+use Rattle.growing_rules.specs.GrowingRule.{insert_of, bodies_down, bodies_up, NonFalling, BodyOrder}
 
 -- ---- the insertion gives them in non-rising order: none is below its neighbour behind it
 
@@ -15,8 +15,8 @@ NonRising [] = Unit {0}
 NonRising (a ∷ []) = Unit {0}
 NonRising (a ∷ b ∷ rest) = (lt a b ≡ false) × NonRising (b ∷ rest)
 
-insert-non-rising : (x : Float) (l : List Float) → NonRising l → NonRising (insertOf x l)
-unfolding insertOf
+insert-non-rising : (x : Float) (l : List Float) → NonRising l → NonRising (insert_of x l)
+unfolding insert_of
 insert-non-rising x [] h = tt
 insert-non-rising x (a ∷ []) h = go (lt x a) refl
   where
@@ -25,29 +25,29 @@ insert-non-rising x (a ∷ []) h = go (lt x a) refl
     go false e = (e, tt)
 insert-non-rising x (a ∷ b ∷ rest) h = go (lt x a) refl (lt x b) refl (insert-non-rising x (b ∷ rest) h.1)
   where
-    go : (t : Bool) → lt x a ≡ t → (u : Bool) → lt x b ≡ u → NonRising (cond u (b ∷ insertOf x rest) (x ∷ b ∷ rest)) → NonRising (cond t (a ∷ cond u (b ∷ insertOf x rest) (x ∷ b ∷ rest)) (x ∷ a ∷ b ∷ rest))
+    go : (t : Bool) → lt x a ≡ t → (u : Bool) → lt x b ≡ u → NonRising (cond u (b ∷ insert_of x rest) (x ∷ b ∷ rest)) → NonRising (cond t (a ∷ cond u (b ∷ insert_of x rest) (x ∷ b ∷ rest)) (x ∷ a ∷ b ∷ rest))
     go true e true f r = (h.0, r)
     go true e false f r = (lt-asym x a e, r)
     go false e u f r = (e, h)
 
-insert-perm : (x : Float) (l : List Float) → Perm (insertOf x l) (x ∷ l)
-unfolding insertOf
+insert-perm : (x : Float) (l : List Float) → Perm (insert_of x l) (x ∷ l)
+unfolding insert_of
 insert-perm x [] = Perm.refl (x ∷ [])
 insert-perm x (a ∷ l) = go (insert-perm x l) (lt x a)
   where
-    go : Perm (insertOf x l) (x ∷ l) → (t : Bool) → Perm (cond t (a ∷ insertOf x l) (x ∷ a ∷ l)) (x ∷ a ∷ l)
+    go : Perm (insert_of x l) (x ∷ l) → (t : Bool) → Perm (cond t (a ∷ insert_of x l) (x ∷ a ∷ l)) (x ∷ a ∷ l)
     go r true = Perm.trans (Perm.cons a r) (Perm.swap x a l)
     go r false = Perm.refl (x ∷ a ∷ l)
 
-down-non-rising : (s : List Bar) → NonRising (bodiesDown s)
-unfolding bodiesDown
+down-non-rising : (s : List Bar) → NonRising (bodies_down s)
+unfolding bodies_down
 down-non-rising [] = tt
-down-non-rising (b ∷ s) = insert-non-rising (body_of b) (bodiesDown s) (down-non-rising s)
+down-non-rising (b ∷ s) = insert-non-rising (body_of b) (bodies_down s) (down-non-rising s)
 
-down-perm : (s : List Bar) → Perm (bodiesDown s) (map body_of s)
-unfolding bodiesDown
+down-perm : (s : List Bar) → Perm (bodies_down s) (map body_of s)
+unfolding bodies_down
 down-perm [] = Perm.refl []
-down-perm (b ∷ s) = Perm.trans (insert-perm (body_of b) (bodiesDown s)) (Perm.cons (body_of b) (down-perm s))
+down-perm (b ∷ s) = Perm.trans (insert-perm (body_of b) (bodies_down s)) (Perm.cons (body_of b) (down-perm s))
 
 -- ---- from the last to the first they are in non-falling order
 
@@ -60,9 +60,9 @@ reverse-non-falling [] h = tt
 reverse-non-falling (b ∷ l) h = turned l b [] h tt
 
 pub body-order : BodyOrder
-unfolding bodiesUp
+unfolding bodies_up
 body-order =
     record {
-      non-falling = λ s. reverse-non-falling (bodiesDown s) (down-non-rising s);
-      the_bodies = λ s. Perm.trans (reverse_perm (bodiesDown s)) (down-perm s);
+      non-falling = λ s. reverse-non-falling (bodies_down s) (down-non-rising s);
+      the_bodies = λ s. Perm.trans (reverse_perm (bodies_down s)) (down-perm s);
     }

@@ -12,17 +12,17 @@ use lib.ListN.{length}
 use lib.Ieee.{Float, lt, is_nan}
 use Rattle.measures.specs.Bar.{Bar}
 use Rattle.measures.specs.declared.folds.Column.TheVariants.{High, Low}
-use Rattle.measures.specs.Window.{windowOf, backOf}
-use Rattle.measures.specs.Fold.{columnOf, extremesOf}
+use Rattle.measures.specs.Window.{window_of, back_of}
+use Rattle.measures.specs.Fold.{column_of, extremes_of}
 use Rattle.measures.proofs.Order.{max-second, min-second, both_ways}
 use Rattle.measures.proofs.FoldLaws.{known-highest, known-lowest}
 use Rattle.rule_types.specs.declared.label.Label.TheVariants.{Other}
 use Rattle.growing_rules.specs.declared.Ends.{Ends}
 use Rattle.growing_rules.specs.declared.Shape.{Shape, TheVariants.ThreeMethods, TheVariants.Tower}
 use Rattle.middles.specs.declared.Middle.{Middle}
-use Rattle.growing_rules.specs.GrowingRule.{firstMatch, inner_of}
-use Rattle.middles.specs.MiddleSteps.{middle_of, entered, middleAt}
-use Rattle.growing_rules.specs.SearchSteps.{checkOf, mayRise, mayFall, mayBeTop, mayBeBottom, mayBe, beyond, noMatch, foundOf, searchedOf}
+use Rattle.growing_rules.specs.GrowingRule.{first_match, inner_of}
+use Rattle.middles.specs.MiddleSteps.{middle_of, entered, middle_at}
+use Rattle.growing_rules.specs.SearchSteps.{check_of, may_rise, may_fall, may_be_top, may_be_bottom, may_be, beyond, no_match, found_of, searched_of}
 use Rattle.growing_rules.proofs.GrowingLaws.{match-miss, match-ends}
 use Rattle.middles.proofs.MiddleLaws.{first-at, last-at, at_next, at-end}
 use Rattle.growing_rules.proofs.ShapeLaws.{neither, no_label}
@@ -53,49 +53,49 @@ module _ (first last : Bar) (m : Middle) (within : beyond last m ≡ false) wher
   unfolding beyond
   sides = neither (lt o c && lt m.highest c) (lt c o && lt c m.lowest) within
 
-  no-rise : mayRise first last m ≡ false
-  unfolding mayRise
+  no-rise : may_rise first last m ≡ false
+  unfolding may_rise
   no-rise = lacking (lt o c) (lt m.highest c) sides.0 (λ e. simp e) (λ e. simp (e, and-false))
 
-  no-fall : mayFall first last m ≡ false
-  unfolding mayFall
+  no-fall : may_fall first last m ≡ false
+  unfolding may_fall
   no-fall = lacking (lt c o) (lt c m.lowest) sides.1 (λ e. simp e) (λ e. simp (e, and-false))
 
-  no_top : mayBeTop first last m ≡ false
-  unfolding mayBeTop
+  no_top : may_be_top first last m ≡ false
+  unfolding may_be_top
   no_top = lacking (lt c o) (lt c m.lowest) sides.1 (λ e. simp (e, and-false)) (λ e. simp (e, and-false))
 
-  no-bottom : mayBeBottom first last m ≡ false
-  unfolding mayBeBottom
+  no-bottom : may_be_bottom first last m ≡ false
+  unfolding may_be_bottom
   no-bottom = lacking (lt o c) (lt m.highest c) sides.0 (λ e. simp (e, and-false)) (λ e. simp (e, and-false))
 
-  no-shape : (shape : Shape) → mayBe shape first last m ≡ false
+  no-shape : (shape : Shape) → may_be shape first last m ≡ false
   no-shape ThreeMethods = simp (no-rise, no-fall)
   no-shape Tower = simp (no_top, no-bottom)
 
 -- a window without what the code tests has no label
-pub no-window : (shape : Shape) (w : List Bar) (n : ℕ) → 1 ≤ n → mayBe shape (backOf w n) (backOf w 1) (middleAt w n) ≡ false → checkOf shape (windowOf w 1 n) ≡ Other
-unfolding middleAt
-no-window shape w n some unfit = no_label (windowOf w 1 n) shape (rw (first-at w n, last-at w n some) unfit)
+pub no-window : (shape : Shape) (w : List Bar) (n : ℕ) → 1 ≤ n → may_be shape (back_of w n) (back_of w 1) (middle_at w n) ≡ false → check_of shape (window_of w 1 n) ≡ Other
+unfolding middle_at
+no-window shape w n some unfit = no_label (window_of w 1 n) shape (rw (first-at w n, last-at w n some) unfit)
 
 -- what is found in the windows of fewer than n bars is the search of as many sizes, up to the end of its shape
-pub found_at : (shape : Shape) (end : ℕ) (w : List Bar) (n k : ℕ) → min n end ≡ k → foundOf shape end w n ≡ firstMatch (checkOf shape) (k - 5) 5 w
-unfolding foundOf
+pub found_at : (shape : Shape) (end : ℕ) (w : List Bar) (n k : ℕ) → min n end ≡ k → found_of shape end w n ≡ first_match (check_of shape) (k - 5) 5 w
+unfolding found_of
 found_at shape end w n k e = rw e
 
 -- it stays where the window of n bars is not tried, or fails
 module _ (shape : Shape) (end : ℕ) (w : List Bar) (n : ℕ) (many : 5 ≤ n) where
-  pub found-stays : (ltb n end && mayBe shape (backOf w n) (backOf w 1) (middleAt w n)) ≡ false → foundOf shape end w (n + 1) ≡ foundOf shape end w n
+  pub found-stays : (ltb n end && may_be shape (back_of w n) (back_of w 1) (middle_at w n)) ≡ false → found_of shape end w (n + 1) ≡ found_of shape end w n
   found-stays unfit = go (ltb n end) refl unfit
     where
-      go : (t : Bool) → ltb n end ≡ t → (t && mayBe shape (backOf w n) (backOf w 1) (middleAt w n)) ≡ false → foundOf shape end w (n + 1) ≡ foundOf shape end w n
+      go : (t : Bool) → ltb n end ≡ t → (t && may_be shape (back_of w n) (back_of w 1) (middle_at w n)) ≡ false → found_of shape end w (n + 1) ≡ found_of shape end w n
       go false e h =
           let past = ltb-false n end e in
           found_at shape end w (n + 1) end (omega (arith, past)) ∙ sym (found_at shape end w n end (omega (arith, past)))
       go true e h =
           let before = ltb-true n end e in
           rw (found_at shape end w (n + 1) (n + 1) (omega (arith, before)), found_at shape end w n n (omega (arith, before)))
-          (match-miss (checkOf shape) w n many (rw (no-window shape w n (omega arith) h)))
+          (match-miss (check_of shape) w n many (rw (no-window shape w n (omega arith) h)))
 
 -- ---- and a middle that it does not lie beyond, it does not lie beyond when a bar has entered
 
@@ -109,51 +109,51 @@ module _ (last b : Bar) (m : Middle) (high : is_nan m.highest ≡ false) (low : 
       simp (up, down)
 
 module _ (w : List Bar) (n : ℕ) where
-  known-high : is_nan (middleAt w n).highest ≡ false
-  unfolding middleAt middle_of extremesOf
-  known-high = known-highest (columnOf High (inner_of (windowOf w 1 n)))
+  known-high : is_nan (middle_at w n).highest ≡ false
+  unfolding middle_at middle_of extremes_of
+  known-high = known-highest (column_of High (inner_of (window_of w 1 n)))
 
-  known-low : is_nan (middleAt w n).lowest ≡ false
-  unfolding middleAt middle_of extremesOf
-  known-low = known-lowest (columnOf Low (inner_of (windowOf w 1 n)))
+  known-low : is_nan (middle_at w n).lowest ≡ false
+  unfolding middle_at middle_of extremes_of
+  known-low = known-lowest (column_of Low (inner_of (window_of w 1 n)))
 
-  next-within : 2 ≤ n → beyond (backOf w 1) (middleAt w n) ≡ false → beyond (backOf w 1) (middleAt w (n + 1)) ≡ false
+  next-within : 2 ≤ n → beyond (back_of w 1) (middle_at w n) ≡ false → beyond (back_of w 1) (middle_at w (n + 1)) ≡ false
   next-within some within =
       elim (dec_lt n (length w)) [
-        | yes older ↦ rw (at_next w n some older) (stays_within (backOf w 1) (backOf w n) (middleAt w n) known-high known-low within)
+        | yes older ↦ rw (at_next w n some older) (stays_within (back_of w 1) (back_of w n) (middle_at w n) known-high known-low within)
         | no none ↦ rw (at-end w n (omega arith)) within
       ]
 
 -- so no window from there on has a label
-module _ (w : List Bar) (n : ℕ) (some : 2 ≤ n) (within : beyond (backOf w 1) (middleAt w n) ≡ false) where
-  all-within : (i : ℕ) → beyond (backOf w 1) (middleAt w (n + i)) ≡ false
+module _ (w : List Bar) (n : ℕ) (some : 2 ≤ n) (within : beyond (back_of w 1) (middle_at w n) ≡ false) where
+  all-within : (i : ℕ) → beyond (back_of w 1) (middle_at w (n + i)) ≡ false
   all-within zero = let e : n + 0 ≡ n = omega arith in rw e within
   all-within (suc i) = let e : n + suc i ≡ n + i + 1 = omega arith in rw e (next-within w (n + i) (omega arith) (all-within i))
 
-  no_more : (shape : Shape) (i : ℕ) → checkOf shape (windowOf w 1 (n + i)) ≡ Other
-  no_more shape i = no-window shape w (n + i) (omega arith) (no-shape (backOf w (n + i)) (backOf w 1) (middleAt w (n + i)) (all-within i) shape)
+  no_more : (shape : Shape) (i : ℕ) → check_of shape (window_of w 1 (n + i)) ≡ Other
+  no_more shape i = no-window shape w (n + i) (omega arith) (no-shape (back_of w (n + i)) (back_of w 1) (middle_at w (n + i)) (all-within i) shape)
 
 -- and the search is at its end
-module _ (w : List Bar) (n : ℕ) (many : 5 ≤ n) (few : n ≤ 10) (within : beyond (backOf w 1) (middleAt w n) ≡ false) where
-  found_all : (shape : Shape) (end : ℕ) → foundOf shape end w n ≡ foundOf shape end w 10
+module _ (w : List Bar) (n : ℕ) (many : 5 ≤ n) (few : n ≤ 10) (within : beyond (back_of w 1) (middle_at w n) ≡ false) where
+  found_all : (shape : Shape) (end : ℕ) → found_of shape end w n ≡ found_of shape end w 10
   found_all shape end =
       let d = min 10 end - n in
       elim (dec_le n end) [
-        | yes before ↦ (found_at shape end w n n (omega arith) ∙ sym (match-ends (checkOf shape) w n many (no_more w n (omega arith) within shape) d) ∙ sym (found_at shape end w 10 (n + d) (omega arith)))
+        | yes before ↦ (found_at shape end w n n (omega arith) ∙ sym (match-ends (check_of shape) w n many (no_more w n (omega arith) within shape) d) ∙ sym (found_at shape end w 10 (n + d) (omega arith)))
         | no past ↦ (found_at shape end w n end (omega arith) ∙ sym (found_at shape end w 10 end (omega arith)))
       ]
 
-  pub search-ends : (ends : Ends) → searchedOf ends w n ≡ searchedOf ends w 10
+  pub search-ends : (ends : Ends) → searched_of ends w n ≡ searched_of ends w 10
   search-ends ends = rw (found_all ThreeMethods ends.methods, found_all Tower ends.tower)
 
 -- nothing is found in the windows of fewer than 5 bars
-pub searched-none : (ends : Ends) (w : List Bar) → noMatch ≡ searchedOf ends w 5
-unfolding foundOf firstMatch
+pub searched-none : (ends : Ends) (w : List Bar) → no_match ≡ searched_of ends w 5
+unfolding found_of first_match
 searched-none ends w =
     let e1 : min 5 ends.methods - 5 ≡ 0 = omega arith in
     let e2 : min 5 ends.tower - 5 ≡ 0 = omega arith in
     rw (e1, e2)
 
 -- so where the newest close is not beyond the first middle, nothing is found
-pub no-growing : (ends : Ends) (w : List Bar) → beyond (backOf w 1) (middleAt w 5) ≡ false → noMatch ≡ searchedOf ends w 10
+pub no-growing : (ends : Ends) (w : List Bar) → beyond (back_of w 1) (middle_at w 5) ≡ false → no_match ≡ searched_of ends w 10
 no-growing ends w within = searched-none ends w ∙ search-ends w 5 (omega arith) (omega arith) within ends

@@ -6,17 +6,17 @@ use mathlib.Core.List.{List, [], ◌∷◌}
 use lib.Ieee.{Float, lt, is_nan, div, of_int, of_bits}
 use Rattle.measures.specs.Bar.{Bar}
 use Rattle.measures.specs.declared.folds.Column.{Column, TheVariants.Close, TheVariants.High, TheVariants.Low}
-use Rattle.measures.specs.Price.{max_of, minOf}
-use Rattle.measures.specs.Fold.{columnOf, highestOf, lowestOf, sum_of, size_of, varianceOf, everyOf, extremesOf}
+use Rattle.measures.specs.Price.{max_of, min_of}
+use Rattle.measures.specs.Fold.{column_of, highest_of, lowest_of, sum_of, size_of, variance_of, every_of, extremes_of}
 use Rattle.measures.proofs.Order.{lt-asym, known-left, known-right, max-both, min-both}
 use Rattle.measures.proofs.FoldLaws.{every-above, every-below}
 use Rattle.rule_types.specs.declared.label.Label.TheVariants.{Other, RisingThreeMethods, FallingThreeMethods, Bottom, Top}
-use Rattle.rule_types.specs.Number.{aHalf}
+use Rattle.rule_types.specs.Number.{a_half}
 use Rattle.growing_rules.specs.declared.Shape.{Shape, TheVariants.ThreeMethods, TheVariants.Tower}
 use Rattle.middles.specs.declared.Middle.{Middle}
-use Rattle.growing_rules.specs.GrowingRule.{first_of, last_of, inner_of, risesOf, fallsOf, threeMethods, endsLead, top_of, bottomOf, tower}
+use Rattle.growing_rules.specs.GrowingRule.{first_of, last_of, inner_of, rises_of, falls_of, three_methods, ends_lead, top_of, bottom_of, tower}
 use Rattle.middles.specs.MiddleSteps.{middle_of}
-use Rattle.growing_rules.specs.SearchSteps.{checkOf, mayRise, mayFall, mayBeTop, mayBeBottom, mayBe}
+use Rattle.growing_rules.specs.SearchSteps.{check_of, may_rise, may_fall, may_be_top, may_be_bottom, may_be}
 
 pub neither : (a b : Bool) → (a || b) ≡ false → (a ≡ false) × (b ≡ false)
 neither false b h = (refl, h)
@@ -31,46 +31,46 @@ module _ (first last : Bar) (m : Middle) where
   not-falling : rising ≡ true → lt last.close last.«open» ≡ false
   not-falling = lt-asym last.«open» last.close
 
-  pub no-fall-up : rising ≡ true → mayFall first last m ≡ false
-  unfolding mayFall
+  pub no-fall-up : rising ≡ true → may_fall first last m ≡ false
+  unfolding may_fall
   no-fall-up up = simp (not-falling up)
 
-  pub no-top-up : rising ≡ true → mayBeTop first last m ≡ false
-  unfolding mayBeTop
+  pub no-top-up : rising ≡ true → may_be_top first last m ≡ false
+  unfolding may_be_top
   no-top-up up = simp (not-falling up, and-false)
 
-  pub no-rise-down : rising ≡ false → mayRise first last m ≡ false
-  unfolding mayRise
+  pub no-rise-down : rising ≡ false → may_rise first last m ≡ false
+  unfolding may_rise
   no-rise-down down = simp down
 
-  pub no-bottom-down : rising ≡ false → mayBeBottom first last m ≡ false
-  unfolding mayBeBottom
+  pub no-bottom-down : rising ≡ false → may_be_bottom first last m ≡ false
+  unfolding may_be_bottom
   no-bottom-down down = simp (down, and-false)
 
 -- ---- 17: the bodies and the variance are left
 
 -- of no bar the variance is NaN
-no-variance : (c : Column) → lt (varianceOf (columnOf c [])) aHalf ≡ false
-unfolding varianceOf columnOf sum_of size_of lt div of_int of_bits
+no-variance : (c : Column) → lt (variance_of (column_of c [])) a_half ≡ false
+unfolding variance_of column_of sum_of size_of lt div of_int of_bits
 no-variance c = refl
 
 -- so what two tests of a middle's bars say alike where there is one, they say alike beside its variance
 beside-variance : (c : Column) (P Q : List Bar → Bool) → ((x : Bar) (mid : List Bar) → P (x ∷ mid) ≡ Q (x ∷ mid))
-    → (mid : List Bar) → (lt (varianceOf (columnOf c mid)) aHalf && P mid) ≡ (lt (varianceOf (columnOf c mid)) aHalf && Q mid)
+    → (mid : List Bar) → (lt (variance_of (column_of c mid)) a_half && P mid) ≡ (lt (variance_of (column_of c mid)) a_half && Q mid)
 beside-variance c P Q same [] = simp (no-variance c)
 beside-variance c P Q same (x ∷ mid) = rw (same x mid)
 
 -- every low above the larger of two known bounds: no low is NaN, and the lowest is above both; and the mirror of it
 module _ (a b : Float) (ka : is_nan a ≡ false) (kb : is_nan b ≡ false) where
   lows-above : (x : Bar) (mid : List Bar)
-      → everyOf (λ y. lt (max_of a b) y) (columnOf Low (x ∷ mid)) ≡ ((middle_of (x ∷ mid)).lows && (lt a (middle_of (x ∷ mid)).lowest && lt b (middle_of (x ∷ mid)).lowest))
-  unfolding middle_of extremesOf columnOf
-  lows-above x mid = every-above (max_of a b) x.low (columnOf Low mid) ∙ rw (max-both a b (lowestOf (columnOf Low (x ∷ mid))) ka kb)
+      → every_of (λ y. lt (max_of a b) y) (column_of Low (x ∷ mid)) ≡ ((middle_of (x ∷ mid)).lows && (lt a (middle_of (x ∷ mid)).lowest && lt b (middle_of (x ∷ mid)).lowest))
+  unfolding middle_of extremes_of column_of
+  lows-above x mid = every-above (max_of a b) x.low (column_of Low mid) ∙ rw (max-both a b (lowest_of (column_of Low (x ∷ mid))) ka kb)
 
   highs-below : (x : Bar) (mid : List Bar)
-      → everyOf (λ y. lt y (minOf a b)) (columnOf High (x ∷ mid)) ≡ ((middle_of (x ∷ mid)).highs && (lt (middle_of (x ∷ mid)).highest a && lt (middle_of (x ∷ mid)).highest b))
-  unfolding middle_of extremesOf columnOf
-  highs-below x mid = every-below (minOf a b) x.high (columnOf High mid) ∙ rw (min-both a b (highestOf (columnOf High (x ∷ mid))) ka kb)
+      → every_of (λ y. lt y (min_of a b)) (column_of High (x ∷ mid)) ≡ ((middle_of (x ∷ mid)).highs && (lt (middle_of (x ∷ mid)).highest a && lt (middle_of (x ∷ mid)).highest b))
+  unfolding middle_of extremes_of column_of
+  highs-below x mid = every-below (min_of a b) x.high (column_of High mid) ∙ rw (min-both a b (highest_of (column_of High (x ∷ mid))) ka kb)
 
 -- the ends' test, in the order in which the code asks: the ends and the extremes, the bodies, the variance
 reordered : (lead v k p q : Bool) → (lead && (v && (k && (p && q)))) ≡ (k && p && q && (lead && v))
@@ -96,69 +96,69 @@ module _ (s : List Bar) where
   abbrev mid : List Bar
   mid = inner_of s
 
-  rises_by : risesOf s ≡ (mayRise f l (middle_of mid) && lt (highestOf (columnOf Close mid)) f.close)
-  unfolding risesOf mayRise middle_of extremesOf
+  rises_by : rises_of s ≡ (may_rise f l (middle_of mid) && lt (highest_of (column_of Close mid)) f.close)
+  unfolding rises_of may_rise middle_of extremes_of
   rises_by = simp and_assoc
 
-  falls-by : fallsOf s ≡ (mayFall f l (middle_of mid) && lt f.close (lowestOf (columnOf Close mid)))
-  unfolding fallsOf mayFall middle_of extremesOf
+  falls-by : falls_of s ≡ (may_fall f l (middle_of mid) && lt f.close (lowest_of (column_of Close mid)))
+  unfolding falls_of may_fall middle_of extremes_of
   falls-by = simp and_assoc
 
-  top-by : top_of s ≡ (mayBeTop f l (middle_of mid) && (endsLead s && lt (varianceOf (columnOf High mid)) aHalf))
-  unfolding top_of mayBeTop
+  top-by : top_of s ≡ (may_be_top f l (middle_of mid) && (ends_lead s && lt (variance_of (column_of High mid)) a_half))
+  unfolding top_of may_be_top
   top-by =
-      in_order (endsLead s) _ _ (lt (varianceOf (columnOf High mid)) aHalf) (everyOf (λ x. lt (max_of f.«open» l.close) x) (columnOf Low mid)) _ _ _
-      (λ up down. beside-variance High (λ s. everyOf (λ x. lt (max_of f.«open» l.close) x) (columnOf Low s)) (λ s. (middle_of s).lows && (lt f.«open» (middle_of s).lowest && lt l.close (middle_of s).lowest))
+      in_order (ends_lead s) _ _ (lt (variance_of (column_of High mid)) a_half) (every_of (λ x. lt (max_of f.«open» l.close) x) (column_of Low mid)) _ _ _
+      (λ up down. beside-variance High (λ s. every_of (λ x. lt (max_of f.«open» l.close) x) (column_of Low s)) (λ s. (middle_of s).lows && (lt f.«open» (middle_of s).lowest && lt l.close (middle_of s).lowest))
       (lows-above f.«open» l.close (known-left f.«open» f.close up) (known-left l.close l.«open» down)) mid)
 
-  bottom-by : bottomOf s ≡ (mayBeBottom f l (middle_of mid) && (endsLead s && lt (varianceOf (columnOf Low mid)) aHalf))
-  unfolding bottomOf mayBeBottom
+  bottom-by : bottom_of s ≡ (may_be_bottom f l (middle_of mid) && (ends_lead s && lt (variance_of (column_of Low mid)) a_half))
+  unfolding bottom_of may_be_bottom
   bottom-by =
-      in_order (endsLead s) _ _ (lt (varianceOf (columnOf Low mid)) aHalf) (everyOf (λ x. lt x (minOf f.«open» l.close)) (columnOf High mid)) _ _ _
-      (λ down up. beside-variance Low (λ s. everyOf (λ x. lt x (minOf f.«open» l.close)) (columnOf High s)) (λ s. (middle_of s).highs && (lt (middle_of s).highest f.«open» && lt (middle_of s).highest l.close))
+      in_order (ends_lead s) _ _ (lt (variance_of (column_of Low mid)) a_half) (every_of (λ x. lt x (min_of f.«open» l.close)) (column_of High mid)) _ _ _
+      (λ down up. beside-variance Low (λ s. every_of (λ x. lt x (min_of f.«open» l.close)) (column_of High s)) (λ s. (middle_of s).highs && (lt (middle_of s).highest f.«open» && lt (middle_of s).highest l.close))
       (highs-below f.«open» l.close (known-right f.close f.«open» down) (known-right l.«open» l.close up)) mid)
 
   abbrev may : Shape → Bool
-  may shape = mayBe shape f l (middle_of mid)
+  may shape = may_be shape f l (middle_of mid)
 
   -- where the test fails, the window has no label
-  pub no_label : (shape : Shape) → may shape ≡ false → checkOf shape s ≡ Other
-  unfolding threeMethods tower
+  pub no_label : (shape : Shape) → may shape ≡ false → check_of shape s ≡ Other
+  unfolding three_methods tower
   no_label ThreeMethods unfit =
-      let e = neither (mayRise f l (middle_of mid)) (mayFall f l (middle_of mid)) unfit in
+      let e = neither (may_rise f l (middle_of mid)) (may_fall f l (middle_of mid)) unfit in
       simp (rises_by, falls-by, e.0, e.1)
   no_label Tower unfit =
-      let e = neither (mayBeTop f l (middle_of mid)) (mayBeBottom f l (middle_of mid)) unfit in
+      let e = neither (may_be_top f l (middle_of mid)) (may_be_bottom f l (middle_of mid)) unfit in
       simp (top-by, bottom-by, e.0, e.1)
 
   -- nor does one whose ends do not lead
-  pub no-tower : endsLead s ≡ false → tower s ≡ Other
-  unfolding tower top_of bottomOf
+  pub no-tower : ends_lead s ≡ false → tower s ≡ Other
+  unfolding tower top_of bottom_of
   no-tower unled = simp unled
 
   -- where it passes, the newest bar's side says which label is left
   module _ (up : lt l.«open» l.close ≡ true) where
-    pub methods-up : may ThreeMethods ≡ true → threeMethods s ≡ cond (lt (highestOf (columnOf Close mid)) f.close) RisingThreeMethods Other
-    unfolding threeMethods
+    pub methods-up : may ThreeMethods ≡ true → three_methods s ≡ cond (lt (highest_of (column_of Close mid)) f.close) RisingThreeMethods Other
+    unfolding three_methods
     methods-up fit =
-        let rise : mayRise f l (middle_of mid) ≡ true = simp (no-fall-up f l (middle_of mid) up, or-false) at fit in
+        let rise : may_rise f l (middle_of mid) ≡ true = simp (no-fall-up f l (middle_of mid) up, or-false) at fit in
         simp (rises_by, falls-by, rise, no-fall-up f l (middle_of mid) up)
 
-    pub tower-up : may Tower ≡ true → tower s ≡ cond (endsLead s && lt (varianceOf (columnOf Low mid)) aHalf) Bottom Other
+    pub tower-up : may Tower ≡ true → tower s ≡ cond (ends_lead s && lt (variance_of (column_of Low mid)) a_half) Bottom Other
     unfolding tower
     tower-up fit =
-        let bottom : mayBeBottom f l (middle_of mid) ≡ true = simp (no-top-up f l (middle_of mid) up) at fit in
+        let bottom : may_be_bottom f l (middle_of mid) ≡ true = simp (no-top-up f l (middle_of mid) up) at fit in
         simp (top-by, bottom-by, bottom, no-top-up f l (middle_of mid) up)
 
   module _ (down : lt l.«open» l.close ≡ false) where
-    pub methods-down : may ThreeMethods ≡ true → threeMethods s ≡ cond (lt f.close (lowestOf (columnOf Close mid))) FallingThreeMethods Other
-    unfolding threeMethods
+    pub methods-down : may ThreeMethods ≡ true → three_methods s ≡ cond (lt f.close (lowest_of (column_of Close mid))) FallingThreeMethods Other
+    unfolding three_methods
     methods-down fit =
-        let fall : mayFall f l (middle_of mid) ≡ true = simp (no-rise-down f l (middle_of mid) down) at fit in
+        let fall : may_fall f l (middle_of mid) ≡ true = simp (no-rise-down f l (middle_of mid) down) at fit in
         simp (rises_by, falls-by, fall, no-rise-down f l (middle_of mid) down)
 
-    pub tower-down : may Tower ≡ true → tower s ≡ cond (endsLead s && lt (varianceOf (columnOf High mid)) aHalf) Top Other
+    pub tower-down : may Tower ≡ true → tower s ≡ cond (ends_lead s && lt (variance_of (column_of High mid)) a_half) Top Other
     unfolding tower
     tower-down fit =
-        let top : mayBeTop f l (middle_of mid) ≡ true = simp (no-bottom-down f l (middle_of mid) down, or-false) at fit in
+        let top : may_be_top f l (middle_of mid) ≡ true = simp (no-bottom-down f l (middle_of mid) down, or-false) at fit in
         simp (top-by, bottom-by, top, no-bottom-down f l (middle_of mid) down)

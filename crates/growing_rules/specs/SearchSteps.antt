@@ -5,38 +5,38 @@ use Rattle.std.specs.Float.{nan}
 use Rattle.std.specs.Float.Ieee.{lt, is_nan}
 use Rattle.measures.specs.Bar.{Bar}
 use Rattle.rule_types.specs.declared.label.{Label.Label, Pair.Pair}
-use Rattle.rule_types.specs.Label.{pairA}
+use Rattle.rule_types.specs.Label.{pair_a}
 use Rattle.growing_rules.specs.declared.{Ends.Ends, Growing.Growing, Leaders.Leaders, Shape.Shape, Shape.TheVariants.ThreeMethods, Shape.TheVariants.Tower}
 use Rattle.middles.specs.declared.Middle.{Middle}
-use Rattle.growing_rules.specs.GrowingRule.{firstMatch, threeMethods, bodiesDown, bodiesKnown, tower}
+use Rattle.growing_rules.specs.GrowingRule.{first_match, three_methods, bodies_down, bodies_known, tower}
 
 -- ---- what a window needs of its ends and of these extremes: all that 4 asks but for the closes, all that 17 asks but for the bodies and the
 -- variance
 
-unfoldable pub mayRise : Bar → Bar → Middle → Bool
-mayRise first last m =
+unfoldable pub may_rise : Bar → Bar → Middle → Bool
+may_rise first last m =
     lt last.«open» last.close && lt first.«open» first.close && lt first.high last.close
     && lt m.highest last.close && lt first.high m.highest && lt first.«open» m.lowest
 
-unfoldable pub mayFall : Bar → Bar → Middle → Bool
-mayFall first last m =
+unfoldable pub may_fall : Bar → Bar → Middle → Bool
+may_fall first last m =
     lt last.close last.«open» && lt first.close first.«open» && lt last.close first.low
     && lt m.lowest first.low && lt last.close m.lowest && lt m.highest first.«open»
 
 -- every low is above a bound if none is NaN and the lowest is above it, and a bound that is the larger of two is both of them
-unfoldable pub mayBeTop : Bar → Bar → Middle → Bool
-mayBeTop first last m =
+unfoldable pub may_be_top : Bar → Bar → Middle → Bool
+may_be_top first last m =
     lt first.«open» first.close && lt last.close last.«open»
     && m.lows && lt first.«open» m.lowest && lt last.close m.lowest
 
-unfoldable pub mayBeBottom : Bar → Bar → Middle → Bool
-mayBeBottom first last m =
+unfoldable pub may_be_bottom : Bar → Bar → Middle → Bool
+may_be_bottom first last m =
     lt first.close first.«open» && lt last.«open» last.close
     && m.highs && lt m.highest first.«open» && lt m.highest last.close
 
-abbrev pub mayBe : Shape → Bar → Bar → Middle → Bool
-mayBe ThreeMethods first last m = mayRise first last m || mayFall first last m
-mayBe Tower first last m = mayBeTop first last m || mayBeBottom first last m
+abbrev pub may_be : Shape → Bar → Bar → Middle → Bool
+may_be ThreeMethods first last m = may_rise first last m || may_fall first last m
+may_be Tower first last m = may_be_top first last m || may_be_bottom first last m
 
 -- ---- the search
 
@@ -46,29 +46,29 @@ unfoldable pub beyond : Bar → Middle → Bool
 beyond last m = lt last.«open» last.close && lt m.highest last.close || lt last.close last.«open» && lt last.close m.lowest
 
 -- nothing is found
-abbrev pub noMatch : Growing
-noMatch = record { methods = pairA; tower = pairA }
+abbrev pub no_match : Growing
+no_match = record { methods = pair_a; tower = pair_a }
 
 -- what a window is tried for
-abbrev pub checkOf : Shape → List Bar → Label
-checkOf ThreeMethods = threeMethods
-checkOf Tower = tower
+abbrev pub check_of : Shape → List Bar → Label
+check_of ThreeMethods = three_methods
+check_of Tower = tower
 
 -- what is found of a shape in the windows of fewer than n bars, and of fewer than its end
-unfoldable pub foundOf : Shape → ℕ → List Bar → ℕ → Pair
-foundOf shape end w n = firstMatch (checkOf shape) (min n end - 5) 5 w
+unfoldable pub found_of : Shape → ℕ → List Bar → ℕ → Pair
+found_of shape end w n = first_match (check_of shape) (min n end - 5) 5 w
 
-abbrev pub searchedOf : Ends → List Bar → ℕ → Growing
-searchedOf ends w n = record { methods = foundOf ThreeMethods ends.methods w n; tower = foundOf Tower ends.tower w n }
+abbrev pub searched_of : Ends → List Bar → ℕ → Growing
+searched_of ends w n = record { methods = found_of ThreeMethods ends.methods w n; tower = found_of Tower ends.tower w n }
 
 -- ---- what the scan of the bodies carries: the two greatest, NaN where there is none, and whether no body is NaN
 
-unfoldable pub leadersOf : List Bar → Leaders
-leadersOf s = record { first = get_or (bodiesDown s) 0 nan; second = get_or (bodiesDown s) 1 nan; known = bodiesKnown s }
+unfoldable pub leaders_of : List Bar → Leaders
+leaders_of s = record { first = get_or (bodies_down s) 0 nan; second = get_or (bodies_down s) 1 nan; known = bodies_known s }
 
 -- an older bar's body x comes in front
-unfoldable pub bodyJoined : Float → Leaders → Leaders
-bodyJoined x l = record {
+unfoldable pub body_joined : Float → Leaders → Leaders
+body_joined x l = record {
   first = cond (lt x l.first) l.first x;
   second = cond (lt x l.first) (cond (lt x l.second) l.second x) l.first;
   known = not (is_nan x) && l.known;

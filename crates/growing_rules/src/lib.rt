@@ -2,12 +2,12 @@
 // All is proved, nothing is assumed, and no public function has a `requires`: each contract is an equation with a definition of specs/,
 // for every input.
 ghost use Rattle.std.specs.Prelude.{◌≡◌, ◌+◌, ◌-◌, ◌≤◌, ◌<◌, true, []};
-ghost use Rattle.measures.specs.Bar.{barsOf};
-ghost use Rattle.measures.specs.Window.{backOf};
+ghost use Rattle.measures.specs.Bar.{bars_of};
+ghost use Rattle.measures.specs.Window.{back_of};
 ghost use Rattle.growing_rules.specs.declared.Shape.TheVariants as shapes;
-ghost use Rattle.growing_rules.specs.GrowingRule.{sizeLabel, firstMatch, first_of, last_of, inner_of, threeMethods, sanFaV20221118, endsLead, tower as towerOf, taXing, growingOf};
-ghost use Rattle.middles.specs.MiddleSteps.{middle_of, middleAt};
-ghost use Rattle.growing_rules.specs.SearchSteps.{leadersOf, bodyJoined, checkOf, mayRise, mayFall, mayBeTop, mayBeBottom, mayBe, beyond as beyondOf, noMatch, foundOf, searchedOf};
+ghost use Rattle.growing_rules.specs.GrowingRule.{size_label, first_match, first_of, last_of, inner_of, three_methods, san_fa_v20221118, ends_lead, tower as towerOf, ta_xing, growing_of};
+ghost use Rattle.middles.specs.MiddleSteps.{middle_of, middle_at};
+ghost use Rattle.growing_rules.specs.SearchSteps.{leaders_of, body_joined, check_of, may_rise, may_fall, may_be_top, may_be_bottom, may_be, beyond as beyondOf, no_match, found_of, searched_of};
 
 use measures::{Bar, Column};
 use middles::{Middle, first_middle, grow};
@@ -31,20 +31,20 @@ const SIZES: [Label; 5] = [
 // The label of a window of n bars.
 fn size_label(n: usize) -> Label
     requires { (5 ≤ n) × (n < 10) }
-    ensures { result ≡ sizeLabel n }
+    ensures { result ≡ size_label n }
 {
     SIZES[n - 5]
 }
 
 // The first and the last bar of a window, and those between them.
 fn first_bar(s: &[f64]) -> Bar
-    ensures { result ≡ first_of (barsOf s.now) }
+    ensures { result ≡ first_of (bars_of s.now) }
 {
     measures::back(s, measures::count(s))
 }
 
 fn last_bar(s: &[f64]) -> Bar
-    ensures { result ≡ last_of (barsOf s.now) }
+    ensures { result ≡ last_of (bars_of s.now) }
 {
     measures::back(s, 1)
 }
@@ -57,7 +57,7 @@ fn minus(a: usize, b: usize) -> usize
 }
 
 fn inner(s: &[f64]) -> &[f64]
-    ensures { barsOf result.now ≡ inner_of (barsOf s.now) }
+    ensures { bars_of result.now ≡ inner_of (bars_of s.now) }
 {
     measures::last_bars(s, 2, minus(measures::count(s), 2))
 }
@@ -65,7 +65,7 @@ fn inner(s: &[f64]) -> &[f64]
 // 4: san_fa_v20221118. What the ends and the middle's extremes answer is tested before the closes are folded.
 
 fn may_rise(first: Bar, last: Bar, m: Middle) -> bool
-    ensures { result ≡ mayRise first last m }
+    ensures { result ≡ may_rise first last m }
 {
     (last.close > last.open)
         & (first.close > first.open)
@@ -76,7 +76,7 @@ fn may_rise(first: Bar, last: Bar, m: Middle) -> bool
 }
 
 fn may_fall(first: Bar, last: Bar, m: Middle) -> bool
-    ensures { result ≡ mayFall first last m }
+    ensures { result ≡ may_fall first last m }
 {
     (last.close < last.open)
         & (first.close < first.open)
@@ -88,7 +88,7 @@ fn may_fall(first: Bar, last: Bar, m: Middle) -> bool
 
 // The newest bar's side decides which of the two it can be: half of the tests, and the same for all windows.
 fn may_be_methods(first: Bar, last: Bar, m: Middle) -> bool
-    ensures { result ≡ mayBe shapes.ThreeMethods first last m }
+    ensures { result ≡ may_be shapes.ThreeMethods first last m }
 {
     if last.close > last.open {
         may_rise(first, last, m)
@@ -98,8 +98,8 @@ fn may_be_methods(first: Bar, last: Bar, m: Middle) -> bool
 }
 
 fn three_methods(s: &[f64]) -> Label
-    requires { mayBe shapes.ThreeMethods (first_of (barsOf s.now)) (last_of (barsOf s.now)) (middle_of (inner_of (barsOf s.now))) ≡ true }
-    ensures { result ≡ threeMethods (barsOf s.now) }
+    requires { may_be shapes.ThreeMethods (first_of (bars_of s.now)) (last_of (bars_of s.now)) (middle_of (inner_of (bars_of s.now))) ≡ true }
+    ensures { result ≡ three_methods (bars_of s.now) }
 {
     let first = first_bar(s);
     let last = last_bar(s);
@@ -123,7 +123,7 @@ struct Leaders {
 }
 
 fn no_leaders() -> Leaders
-    ensures { result ≡ leadersOf [] }
+    ensures { result ≡ leaders_of [] }
 {
     let nan = measures::price::not_a_number();
     Leaders {
@@ -135,7 +135,7 @@ fn no_leaders() -> Leaders
 
 // An older bar's body joins.
 fn join(l: Leaders, x: f64) -> Leaders
-    ensures { result ≡ bodyJoined x l }
+    ensures { result ≡ body_joined x l }
 {
     let behind = x < l.first;
     Leaders {
@@ -147,7 +147,7 @@ fn join(l: Leaders, x: f64) -> Leaders
 
 // One scan of the bodies, from the newest bar.
 fn leaders_of(s: &[f64]) -> Leaders
-    ensures { result ≡ leadersOf (barsOf s.now) }
+    ensures { result ≡ leaders_of (bars_of s.now) }
 {
     let n = measures::count(s);
     let mut l = no_leaders();
@@ -161,7 +161,7 @@ fn leaders_of(s: &[f64]) -> Leaders
 
 // Whether the smaller of the end bodies is at least the last but one of the bodies in non-falling order.
 fn do_ends_lead(s: &[f64]) -> bool
-    ensures { result ≡ endsLead (barsOf s.now) }
+    ensures { result ≡ ends_lead (bars_of s.now) }
 {
     let l = leaders_of(s);
     let first = measures::body(first_bar(s));
@@ -170,7 +170,7 @@ fn do_ends_lead(s: &[f64]) -> bool
 }
 
 fn may_be_top(first: Bar, last: Bar, m: Middle) -> bool
-    ensures { result ≡ mayBeTop first last m }
+    ensures { result ≡ may_be_top first last m }
 {
     (first.close > first.open)
         & (last.close < last.open)
@@ -180,7 +180,7 @@ fn may_be_top(first: Bar, last: Bar, m: Middle) -> bool
 }
 
 fn may_be_bottom(first: Bar, last: Bar, m: Middle) -> bool
-    ensures { result ≡ mayBeBottom first last m }
+    ensures { result ≡ may_be_bottom first last m }
 {
     (first.close < first.open)
         & (last.close > last.open)
@@ -190,7 +190,7 @@ fn may_be_bottom(first: Bar, last: Bar, m: Middle) -> bool
 }
 
 fn may_be_tower(first: Bar, last: Bar, m: Middle) -> bool
-    ensures { result ≡ mayBe shapes.Tower first last m }
+    ensures { result ≡ may_be shapes.Tower first last m }
 {
     if last.close > last.open {
         may_be_bottom(first, last, m)
@@ -200,8 +200,8 @@ fn may_be_tower(first: Bar, last: Bar, m: Middle) -> bool
 }
 
 fn tower(s: &[f64]) -> Label
-    requires { mayBe shapes.Tower (first_of (barsOf s.now)) (last_of (barsOf s.now)) (middle_of (inner_of (barsOf s.now))) ≡ true }
-    ensures { result ≡ towerOf (barsOf s.now) }
+    requires { may_be shapes.Tower (first_of (bars_of s.now)) (last_of (bars_of s.now)) (middle_of (inner_of (bars_of s.now))) ≡ true }
+    ensures { result ≡ towerOf (bars_of s.now) }
 {
     let lead = do_ends_lead(s);
     if lead {
@@ -221,8 +221,8 @@ fn tower(s: &[f64]) -> Label
 // Both
 
 fn check(shape: Shape, s: &[f64]) -> Label
-    requires { mayBe shape (first_of (barsOf s.now)) (last_of (barsOf s.now)) (middle_of (inner_of (barsOf s.now))) ≡ true }
-    ensures { result ≡ checkOf shape (barsOf s.now) }
+    requires { may_be shape (first_of (bars_of s.now)) (last_of (bars_of s.now)) (middle_of (inner_of (bars_of s.now))) ≡ true }
+    ensures { result ≡ check_of shape (bars_of s.now) }
 {
     match shape {
         Shape::ThreeMethods => three_methods(s),
@@ -232,8 +232,8 @@ fn check(shape: Shape, s: &[f64]) -> Label
 
 // What is found of a shape with the window of n bars, after the smaller ones: few windows come so far.
 fn find_at(shape: Shape, found: Pair, w: &[f64], n: usize) -> Pair
-    requires { (5 ≤ n) × (n < 10) × (found ≡ firstMatch (checkOf shape) (n - 5) 5 (barsOf w.now)) × (mayBe shape (backOf (barsOf w.now) n) (backOf (barsOf w.now) 1) (middleAt (barsOf w.now) n) ≡ true) }
-    ensures { result ≡ firstMatch (checkOf shape) (n + 1 - 5) 5 (barsOf w.now) }
+    requires { (5 ≤ n) × (n < 10) × (found ≡ first_match (check_of shape) (n - 5) 5 (bars_of w.now)) × (may_be shape (back_of (bars_of w.now) n) (back_of (bars_of w.now) 1) (middle_at (bars_of w.now) n) ≡ true) }
+    ensures { result ≡ first_match (check_of shape) (n + 1 - 5) 5 (bars_of w.now) }
 {
     let v1 = found.v1;
     let before = code(v1);
@@ -267,7 +267,7 @@ pub struct Growing {
 }
 
 fn no_match() -> Growing
-    ensures { result ≡ noMatch }
+    ensures { result ≡ no_match }
 {
     let none = pair_a();
     Growing {
@@ -291,8 +291,8 @@ const TOWER_END: usize = 10;
 // What is found with the window of n bars, after the smaller ones. The tests of both recognisers are made before either goes on: a call
 // between them would cost the values that both read. One function for each, since one for both would be called for every window.
 fn methods_at(found: Pair, end: usize, w: &[f64], n: usize, may: bool) -> Pair
-    requires { (5 ≤ n) × (n < 10) × (found ≡ foundOf shapes.ThreeMethods end (barsOf w.now) n) × (may ≡ mayBe shapes.ThreeMethods (backOf (barsOf w.now) n) (backOf (barsOf w.now) 1) (middleAt (barsOf w.now) n)) }
-    ensures { result ≡ foundOf shapes.ThreeMethods end (barsOf w.now) (n + 1) }
+    requires { (5 ≤ n) × (n < 10) × (found ≡ found_of shapes.ThreeMethods end (bars_of w.now) n) × (may ≡ may_be shapes.ThreeMethods (back_of (bars_of w.now) n) (back_of (bars_of w.now) 1) (middle_at (bars_of w.now) n)) }
+    ensures { result ≡ found_of shapes.ThreeMethods end (bars_of w.now) (n + 1) }
 {
     let fits = (n < end) & may;
     if fits {
@@ -303,8 +303,8 @@ fn methods_at(found: Pair, end: usize, w: &[f64], n: usize, may: bool) -> Pair
 }
 
 fn tower_at(found: Pair, end: usize, w: &[f64], n: usize, may: bool) -> Pair
-    requires { (5 ≤ n) × (n < 10) × (found ≡ foundOf shapes.Tower end (barsOf w.now) n) × (may ≡ mayBe shapes.Tower (backOf (barsOf w.now) n) (backOf (barsOf w.now) 1) (middleAt (barsOf w.now) n)) }
-    ensures { result ≡ foundOf shapes.Tower end (barsOf w.now) (n + 1) }
+    requires { (5 ≤ n) × (n < 10) × (found ≡ found_of shapes.Tower end (bars_of w.now) n) × (may ≡ may_be shapes.Tower (back_of (bars_of w.now) n) (back_of (bars_of w.now) 1) (middle_at (bars_of w.now) n)) }
+    ensures { result ≡ found_of shapes.Tower end (bars_of w.now) (n + 1) }
 {
     let fits = (n < end) & may;
     if fits {
@@ -315,8 +315,8 @@ fn tower_at(found: Pair, end: usize, w: &[f64], n: usize, may: bool) -> Pair
 }
 
 fn try_window(ends: Ends, found: Growing, w: &[f64], n: usize, m: Middle) -> Growing
-    requires { (5 ≤ n) × (n < 10) × (found ≡ searchedOf ends (barsOf w.now) n) × (m ≡ middleAt (barsOf w.now) n) }
-    ensures { result ≡ searchedOf ends (barsOf w.now) (n + 1) }
+    requires { (5 ≤ n) × (n < 10) × (found ≡ searched_of ends (bars_of w.now) n) × (m ≡ middle_at (bars_of w.now) n) }
+    ensures { result ≡ searched_of ends (bars_of w.now) (n + 1) }
 {
     let first = measures::back(w, n);
     let last = measures::back(w, 1);
@@ -330,8 +330,8 @@ fn try_window(ends: Ends, found: Growing, w: &[f64], n: usize, m: Middle) -> Gro
 // The search, for both recognisers at once, from the first window's middle: each bar enters the extremes once. Whoever calls it has asked that
 // middle whether the close is beyond it, and most are not: the question stands with the callers, who pay no call for it.
 fn search(ends: Ends, w: &[f64], first: Middle) -> Growing
-    requires { first ≡ middleAt (barsOf w.now) 5 }
-    ensures { result ≡ searchedOf ends (barsOf w.now) 10 }
+    requires { first ≡ middle_at (bars_of w.now) 5 }
+    ensures { result ≡ searched_of ends (bars_of w.now) 10 }
 {
     let last = measures::back(w, 1);
     let mut m = first;
@@ -350,7 +350,7 @@ fn search(ends: Ends, w: &[f64], first: Middle) -> Growing
 }
 
 pub fn san_fa_v20221118(w: &[f64]) -> Pair
-    ensures { result ≡ sanFaV20221118 (barsOf w.now) }
+    ensures { result ≡ san_fa_v20221118 (bars_of w.now) }
 {
     let m = first_middle(w);
     let beyond = is_beyond(measures::back(w, 1), m);
@@ -367,7 +367,7 @@ pub fn san_fa_v20221118(w: &[f64]) -> Pair
 }
 
 pub fn ta_xing(w: &[f64]) -> Pair
-    ensures { result ≡ taXing (barsOf w.now) }
+    ensures { result ≡ ta_xing (bars_of w.now) }
 {
     let m = first_middle(w);
     let beyond = is_beyond(measures::back(w, 1), m);
@@ -385,7 +385,7 @@ pub fn ta_xing(w: &[f64]) -> Pair
 
 // Both at once.
 pub fn growing_pairs(w: &[f64]) -> Growing
-    ensures { result ≡ growingOf (barsOf w.now) }
+    ensures { result ≡ growing_of (bars_of w.now) }
 {
     let m = first_middle(w);
     let beyond = is_beyond(measures::back(w, 1), m);

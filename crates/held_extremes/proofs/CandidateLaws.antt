@@ -6,8 +6,8 @@ use mathlib.Core.List.{List, [], ◌∷◌, foldl}
 use native.Mathlib.Omega.{arith}
 use lib.ListN.{length, get_or}
 use lib.Ieee.{Float, nan, inf, fin, lt, is_nan}
-use Rattle.measures.specs.Price.{max_of, minOf}
-use Rattle.measures.specs.Fold.{highestOf, lowestOf, everyOf}
+use Rattle.measures.specs.Price.{max_of, min_of}
+use Rattle.measures.specs.Fold.{highest_of, lowest_of, every_of}
 use Rattle.measures.proofs.Order.{lt-nan, lt-asym, lt-split, is-nan, both_ways}
 use Rattle.measures.proofs.FoldLaws.{highest-grows, lowest-grows, known-highest, known-lowest}
 use Rattle.held_extremes.specs.Candidate.{greater, smaller, stays, candidates}
@@ -36,12 +36,12 @@ falling = record { asym = λ x y h. lt-asym y x h; split = back-split; nan_right
 -- ---- a value that tells of prices whether any is beyond a price: the foremost of them
 
 abbrev pub Tells : (Float → Float → Bool) → Float → List Float → Type 0
-Tells beyond r ys = (x : Float) → everyOf (λ y. not (beyond x y)) ys ≡ not (beyond x r)
+Tells beyond r ys = (x : Float) → every_of (λ y. not (beyond x y)) ys ≡ not (beyond x r)
 
 module _ (beyond : Float → Float → Bool) (o : Way beyond) where
   -- an older price that nothing told of is beyond takes its place
   pub tells-new : (y r : Float) (ys : List Float) → is_nan y ≡ false → beyond y r ≡ false → Tells beyond r ys → Tells beyond y (y ∷ ys)
-  unfolding everyOf
+  unfolding every_of
   tells-new y r ys known least told x = rw (told x) (go (beyond x y) refl (beyond x r) refl)
     where
       go : (t : Bool) → beyond x y ≡ t → (u : Bool) → beyond x r ≡ u → (not t && not u) ≡ not t
@@ -51,7 +51,7 @@ module _ (beyond : Float → Float → Bool) (o : Way beyond) where
 
   -- one that is not beyond it, or NaN, leaves it
   pub tells-old : (y r : Float) (ys : List Float) → is_nan r ≡ false → beyond r y ≡ false → Tells beyond r ys → Tells beyond r (y ∷ ys)
-  unfolding everyOf
+  unfolding every_of
   tells-old y r ys known least told x = rw (told x) (go (beyond x y) refl (beyond x r) refl)
     where
       go : (t : Bool) → beyond x y ≡ t → (u : Bool) → beyond x r ≡ u → (not t && not u) ≡ not u
@@ -69,9 +69,9 @@ pub record Extreme (beyond : Float → Float → Bool) (f : Float → Float → 
   pub none : (x : Float) → beyond x start ≡ false
 
 -- the price of the first candidate of prices that follow n others; without candidates the fold's infinity
-abbrev pub firstPrice : Float → ℕ → List Float → List ℕ → Float
-firstPrice start n xs [] = start
-firstPrice start n xs (first ∷ others) = get_or xs (first - (n + 1)) nan
+abbrev pub first_price : Float → ℕ → List Float → List ℕ → Float
+first_price start n xs [] = start
+first_price start n xs (first ∷ others) = get_or xs (first - (n + 1)) nan
 
 -- ordinals of bars that follow n others, up to a last one
 abbrev pub Among : ℕ → ℕ → List ℕ → Type 0
@@ -104,7 +104,7 @@ length-candidates beyond n (x ∷ later) = go (stays beyond x later) (length-can
     go false h = omega arith
 
 -- one older price more
-later-price : (start : Float) (n last : ℕ) (x : Float) (xs : List Float) (os : List ℕ) → Among (n + 1) last os → firstPrice start n (x ∷ xs) os ≡ firstPrice start (n + 1) xs os
+later-price : (start : Float) (n last : ℕ) (x : Float) (xs : List Float) (os : List ℕ) → Among (n + 1) last os → first_price start n (x ∷ xs) os ≡ first_price start (n + 1) xs os
 later-price start n last x xs [] h = refl
 later-price start n last x xs (first ∷ others) h =
     let e : first - (n + 1) ≡ suc (first - (n + 1 + 1)) = omega (arith, h.0) in
@@ -122,7 +122,7 @@ module _ (beyond : Float → Float → Bool) (f : Float → Float → Float) (st
 
   -- so the fold tells whether any price is beyond one
   tells-fold : (xs : List Float) → Tells beyond (foldl f start xs) xs
-  unfolding everyOf
+  unfolding every_of
   tells-fold [] = λ x. sym (ap not (e.none x))
   tells-fold (y ∷ ys) =
       let r = foldl f start ys in
@@ -133,7 +133,7 @@ module _ (beyond : Float → Float → Bool) (f : Float → Float → Float) (st
   stays-under x later = ap (λ (t : Bool). not (is_nan x) && t) (tells-fold later x)
 
   -- the first candidate's price, or the infinity, is the fold
-  first-is-fold : (n : ℕ) (xs : List Float) → firstPrice start n xs (candidates beyond n xs) ≡ foldl f start xs
+  first-is-fold : (n : ℕ) (xs : List Float) → first_price start n xs (candidates beyond n xs) ≡ foldl f start xs
   unfolding candidates
   first-is-fold n [] = refl
   first-is-fold n (x ∷ later) =
@@ -144,8 +144,8 @@ module _ (beyond : Float → Float → Bool) (f : Float → Float → Float) (st
       here : n + 1 - (n + 1) ≡ 0
       here = omega arith
 
-      go : (t u : Bool) → firstPrice start n (x ∷ later) (candidates beyond (n + 1) later) ≡ foldl f start later
-          → firstPrice start n (x ∷ later) (cond (not t && not u) ((n + 1) ∷ candidates beyond (n + 1) later) (candidates beyond (n + 1) later)) ≡ cond (t || u) (foldl f start later) x
+      go : (t u : Bool) → first_price start n (x ∷ later) (candidates beyond (n + 1) later) ≡ foldl f start later
+          → first_price start n (x ∷ later) (cond (not t && not u) ((n + 1) ∷ candidates beyond (n + 1) later) (candidates beyond (n + 1) later)) ≡ cond (t || u) (foldl f start later) x
       go true u rest = rest
       go false true rest = rest
       go false false rest = rw here
@@ -156,8 +156,8 @@ max-chooses : (a b : Float) → is_nan b ≡ false → max_of a b ≡ cond (is_n
 unfolding max_of
 max-chooses a b h = simp (h, and-true)
 
-min-chooses : (a b : Float) → is_nan b ≡ false → minOf a b ≡ cond (is_nan a || lt b a) b a
-unfolding minOf
+min-chooses : (a b : Float) → is_nan b ≡ false → min_of a b ≡ cond (is_nan a || lt b a) b a
+unfolding min_of
 min-chooses a b h = simp (h, and-true)
 
 none_above : (x : Float) → lt x (inf true) ≡ false
@@ -173,17 +173,17 @@ none_below (inf s) = refl
 none_below (fin s m e) = refl
 
 pub highest : Extreme greater max_of (inf true)
-unfolding highestOf
+unfolding highest_of
 highest = record { way = rising; grows = highest-grows; chooses = max-chooses; known = known-highest; none = none_above }
 
-pub lowest : Extreme smaller minOf (inf false)
-unfolding lowestOf
+pub lowest : Extreme smaller min_of (inf false)
+unfolding lowest_of
 lowest = record { way = falling; grows = lowest-grows; chooses = min-chooses; known = known-lowest; none = none_below }
 
-pub first-is-highest : (n : ℕ) (xs : List Float) → firstPrice (inf true) n xs (candidates greater n xs) ≡ highestOf xs
-unfolding highestOf
+pub first-is-highest : (n : ℕ) (xs : List Float) → first_price (inf true) n xs (candidates greater n xs) ≡ highest_of xs
+unfolding highest_of
 first-is-highest = first-is-fold greater max_of (inf true) highest
 
-pub first-is-lowest : (n : ℕ) (xs : List Float) → firstPrice (inf false) n xs (candidates smaller n xs) ≡ lowestOf xs
-unfolding lowestOf
-first-is-lowest = first-is-fold smaller minOf (inf false) lowest
+pub first-is-lowest : (n : ℕ) (xs : List Float) → first_price (inf false) n xs (candidates smaller n xs) ≡ lowest_of xs
+unfolding lowest_of
+first-is-lowest = first-is-fold smaller min_of (inf false) lowest

@@ -10,16 +10,16 @@ use lib.ListN.{length, get_or, take, drop, set, replicate, length-take, length-d
 use lib.Seq.{take-suc, drop-cons, drop-nil, get_or-take, get_or-drop, length-take-le}
 use lib.Ieee.{Float, is_nan}
 use Rattle.measures.specs.Bar.{Bar, overlay}
-use Rattle.measures.specs.Fold.{priceOf}
-use Rattle.measures.specs.Window.{backOf}
+use Rattle.measures.specs.Fold.{price_of}
+use Rattle.measures.specs.Window.{back_of}
 use Rattle.measures.proofs.Overlay.{overlay-next, overlay-copy}
 use Rattle.held_extremes.specs.Candidate.{placed}
-use Rattle.held_extremes.specs.CandidateSteps.{beyondFor, columnFor, barPrice, left_of, is_room, room_for, entered, nextOrdinals}
-use Rattle.rule_types.specs.Number.{quarterBars}
+use Rattle.held_extremes.specs.CandidateSteps.{beyond_for, column_for, bar_price, left_of, is_room, room_for, entered, next_ordinals}
+use Rattle.rule_types.specs.Number.{quarter_bars}
 
 -- the places from one on that the loop goes through
 abbrev pub left : List ℕ → ℕ → List ℕ
-left c from = take (quarterBars - 1) (drop from c)
+left c from = take (quarter_bars - 1) (drop from c)
 
 module _ (beyond : Float → Float → Bool) (y : Float) (price : ℕ → Float) where
   -- the places passed make no room, so that what is kept is decided by those that are left
@@ -36,30 +36,30 @@ module _ (beyond : Float → Float → Bool) (y : Float) (price : ℕ → Float)
 
   -- ---- the loop: the places left are laid over others
 
-  module _ (c : List ℕ) (from : ℕ) (small : from ≤ 1) (size : length c ≡ quarterBars) (was out : List ℕ) (i : ℕ) (laid : out ≡ overlay was 0 (take i (left c from))) (passed : Passed (left c from) i) where
-    length-left : length (left c from) ≡ quarterBars - 1
+  module _ (c : List ℕ) (from : ℕ) (small : from ≤ 1) (size : length c ≡ quarter_bars) (was out : List ℕ) (i : ℕ) (laid : out ≡ overlay was 0 (take i (left c from))) (passed : Passed (left c from) i) where
+    length-left : length (left c from) ≡ quarter_bars - 1
     length-left = rw (length-take, length-drop) (omega arith)
 
-    left_at : i < quarterBars - 1 → get_or (left c from) i 0 ≡ get_or c (from + i) 0
-    left_at h = get_or-take (quarterBars - 1) (drop from c) i 0 h ∙ get_or-drop from c i 0
+    left_at : i < quarter_bars - 1 → get_or (left c from) i 0 ≡ get_or c (from + i) 0
+    left_at h = get_or-take (quarter_bars - 1) (drop from c) i 0 h ∙ get_or-drop from c i 0
 
     -- it ends
-    kept : i ≤ quarterBars - 1 → room_for beyond y price (drop i (left c from)) ≡ []
-        → (i ≡ length (room_for beyond y price (left c from))) × (i < quarterBars) × (out ≡ overlay was 0 (room_for beyond y price (left c from)))
+    kept : i ≤ quarter_bars - 1 → room_for beyond y price (drop i (left c from)) ≡ []
+        → (i ≡ length (room_for beyond y price (left c from))) × (i < quarter_bars) × (out ≡ overlay was 0 (room_for beyond y price (left c from)))
     kept h none = rw (none_passed (left c from) i none passed) (sym (length-take-le i (left c from) (omega (arith, length-left))), omega arith, laid)
 
-    pub room-ends : (t : Bool) → i < quarterBars - 1 → t ≡ is_room beyond y price (get_or c (from + i) 0) → t ≡ true
-        → (i ≡ length (room_for beyond y price (left c from))) × (i < quarterBars) × (out ≡ overlay was 0 (room_for beyond y price (left c from)))
+    pub room-ends : (t : Bool) → i < quarter_bars - 1 → t ≡ is_room beyond y price (get_or c (from + i) 0) → t ≡ true
+        → (i ≡ length (room_for beyond y price (left c from))) × (i < quarter_bars) × (out ≡ overlay was 0 (room_for beyond y price (left c from)))
     unfolding room_for
     room-ends t h e is = kept (omega arith) (rw (drop-cons (left c from) i 0 (omega (arith, length-left)), left_at h, ← e, is))
 
-    pub all_pass : i ≤ quarterBars - 1 → quarterBars - 1 ≤ i
-        → (i ≡ length (room_for beyond y price (left c from))) × (i < quarterBars) × (out ≡ overlay was 0 (room_for beyond y price (left c from)))
+    pub all_pass : i ≤ quarter_bars - 1 → quarter_bars - 1 ≤ i
+        → (i ≡ length (room_for beyond y price (left c from))) × (i < quarter_bars) × (out ≡ overlay was 0 (room_for beyond y price (left c from)))
     unfolding room_for
     all_pass h g = let past : length (left c from) ≤ i = omega (arith, length-left) in kept h (rw (drop_of_length-le (left c from) past))
 
     -- it goes on
-    pub one_passes : (t : Bool) → i < quarterBars - 1 → length was ≡ quarterBars → t ≡ is_room beyond y price (get_or c (from + i) 0) → t ≡ false
+    pub one_passes : (t : Bool) → i < quarter_bars - 1 → length was ≡ quarter_bars → t ≡ is_room beyond y price (get_or c (from + i) 0) → t ≡ false
         → (set out i (get_or c (from + i) 0) ≡ overlay was 0 (take (i + 1) (left c from))) × Passed (left c from) (i + 1)
     one_passes t h all e none =
         let there : i < length (left c from) = omega (arith, length-left) in (
@@ -81,7 +81,7 @@ skips-one true r e = omega arith
 skips-one false r e = omega arith
 
 -- the price of a side
-side-price : (high : Bool) (b : Bar) → cond high b.high b.low ≡ priceOf (columnFor high) b
+side-price : (high : Bool) (b : Bar) → cond high b.high b.low ≡ price_of (column_for high) b
 side-price true b = refl
 side-price false b = refl
 
@@ -95,11 +95,11 @@ next-laid was out all room y r last e less laid is = is ∙ rw laid (go (is_nan 
     go false = overlay-next was 0 room last r (omega arith) less
 
 pub next-from : (high : Bool) (before last : ℕ) (bars : List Bar) (places : List ℕ) (y : Float) (from : ℕ)
-    → y ≡ cond high (backOf bars 1).high (backOf bars 1).low
-    → from ≡ cond (eqb (get_or places 0 0) (last - quarterBars)) 1 0
-    → room_for (beyondFor high) y (barPrice (columnFor high) before bars) (take (quarterBars - 1) (drop from places)) ++ entered y last
-    ≡ nextOrdinals (beyondFor high) (columnFor high) before last bars places
-next-from high before last bars places y from e f = rw (e, side-price high (backOf bars 1), f, left-drop (last - quarterBars) places)
+    → y ≡ cond high (back_of bars 1).high (back_of bars 1).low
+    → from ≡ cond (eqb (get_or places 0 0) (last - quarter_bars)) 1 0
+    → room_for (beyond_for high) y (bar_price (column_for high) before bars) (take (quarter_bars - 1) (drop from places)) ++ entered y last
+    ≡ next_ordinals (beyond_for high) (column_for high) before last bars places
+next-from high before last bars places y from e f = rw (e, side-price high (back_of bars 1), f, left-drop (last - quarter_bars) places)
 
 -- what is laid over empty places is placed
 drop-zeros : (m n : ℕ) → drop {A = ℕ} n (replicate m 0) ≡ replicate (m - n) 0
@@ -107,5 +107,5 @@ drop-zeros m zero = let all : m - 0 ≡ m = omega arith in rw all
 drop-zeros zero (suc n) = let none : 0 - suc n ≡ 0 = omega arith in rw none
 drop-zeros (suc m) (suc n) = let less : suc m - suc n ≡ m - n = omega arith in rw less (drop-zeros m n)
 
-pub over_zeros : (os : List ℕ) → overlay (replicate quarterBars 0) 0 os ≡ placed os
-over_zeros os = let e : 0 + length os ≡ length os = omega arith in rw e (ap (λ (l : List ℕ). os ++ l) (drop-zeros quarterBars (length os)))
+pub over_zeros : (os : List ℕ) → overlay (replicate quarter_bars 0) 0 os ≡ placed os
+over_zeros os = let e : 0 + length os ≡ length os = omega arith in rw e (ap (λ (l : List ℕ). os ++ l) (drop-zeros quarter_bars (length os)))

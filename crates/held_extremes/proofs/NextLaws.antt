@@ -9,14 +9,14 @@ use borrow.Author.Tests.{ne_eqb, eq-eqb, not-true}
 use lib.Dec.{eqb}
 use lib.ListN.{length, get_or, take, replicate}
 use lib.Ieee.{Float, nan, is_nan}
-use Rattle.measures.specs.Fold.{everyOf}
+use Rattle.measures.specs.Fold.{every_of}
 use Rattle.held_extremes.specs.Candidate.{stays, candidates}
 use Rattle.held_extremes.specs.CandidateSteps.{left_of, is_room, room_for, entered}
 use Rattle.held_extremes.proofs.CandidateLaws.{Way, Among, among_later}
 
 -- the price of the bar with an ordinal, of bars with prices xs that follow n others
-abbrev pub priceFrom : ℕ → List Float → ℕ → Float
-priceFrom n xs ordinal = get_or xs (ordinal - (n + 1)) nan
+abbrev pub price_from : ℕ → List Float → ℕ → Float
+price_from n xs ordinal = get_or xs (ordinal - (n + 1)) nan
 
 -- no bar has the ordinal 0
 some : (n : ℕ) → eqb (n + 1) 0 ≡ false
@@ -38,7 +38,7 @@ module _ (beyond : Float → Float → Bool) where
 
   -- ---- a price comes behind
   room-shift : (y : Float) (n last : ℕ) (x : Float) (xs : List Float) (os : List ℕ) → Among (n + 1) last os
-      → room_for beyond y (priceFrom n (x ∷ xs)) os ≡ room_for beyond y (priceFrom (n + 1) xs) os
+      → room_for beyond y (price_from n (x ∷ xs)) os ≡ room_for beyond y (price_from (n + 1) xs) os
   unfolding room_for
   room-shift y n last x xs [] h = refl
   room-shift y n last x xs (o ∷ os) h =
@@ -76,17 +76,17 @@ module _ (beyond : Float → Float → Bool) where
   room-same y p q n last [] h same = refl
   room-same y p q n last (o ∷ os) h same = rw (same o h.0 h.1, room-same y p q n last os h.2 same)
 
-  every_more : (p : Float → Bool) (xs : List Float) (y : Float) → everyOf p (xs ++ (y ∷ [])) ≡ (everyOf p xs && p y)
-  unfolding everyOf
+  every_more : (p : Float → Bool) (xs : List Float) (y : Float) → every_of p (xs ++ (y ∷ [])) ≡ (every_of p xs && p y)
+  unfolding every_of
   every_more p [] y = and-true (p y)
-  every_more p (x ∷ xs) y = rw (every_more p xs y) (regroup (p x) (everyOf p xs) (p y))
+  every_more p (x ∷ xs) y = rw (every_more p xs y) (regroup (p x) (every_of p xs) (p y))
     where
       regroup : (a b c : Bool) → (a && (b && c)) ≡ ((a && b) && c)
       regroup true b c = refl
       regroup false b c = refl
 
   stays-more : (x : Float) (xs : List Float) (y : Float) → stays beyond x (xs ++ (y ∷ [])) ≡ (stays beyond x xs && not (beyond x y))
-  stays-more x xs y = rw (every_more (λ z. not (beyond x z)) xs y) (regroup (not (is_nan x)) (everyOf (λ z. not (beyond x z)) xs) (not (beyond x y)))
+  stays-more x xs y = rw (every_more (λ z. not (beyond x z)) xs y) (regroup (not (is_nan x)) (every_of (λ z. not (beyond x z)) xs) (not (beyond x y)))
     where
       regroup : (a b c : Bool) → (a && (b && c)) ≡ ((a && b) && c)
       regroup true b c = refl
@@ -94,28 +94,28 @@ module _ (beyond : Float → Float → Bool) where
 
   module _ (o : Way beyond) where
     -- where a price that nothing in xs is beyond makes room for y, so do all candidates of xs
-    none_left : (x y : Float) (n : ℕ) (xs : List Float) → everyOf (λ z. not (beyond x z)) xs ≡ true → beyond x y ≡ true
-        → room_for beyond y (priceFrom n xs) (candidates beyond n xs) ≡ []
-    unfolding candidates everyOf room_for
+    none_left : (x y : Float) (n : ℕ) (xs : List Float) → every_of (λ z. not (beyond x z)) xs ≡ true → beyond x y ≡ true
+        → room_for beyond y (price_from n xs) (candidates beyond n xs) ≡ []
+    unfolding candidates every_of room_for
     none_left x y n [] least over = refl
     none_left x y n (z ∷ zs) least over =
-        let both = (and-eq-true_iff (not (beyond x z)) (everyOf (λ w. not (beyond x w)) zs)).0 least in
+        let both = (and-eq-true_iff (not (beyond x z)) (every_of (λ w. not (beyond x w)) zs)).0 least in
         let rest = room-shift y n (n + 1 + length zs) z zs (candidates beyond (n + 1) zs) (among_later beyond (n + 1) zs) ∙ none_left x y (n + 1) zs both.1 over in
-        go (is_nan z) refl (everyOf (λ w. not (beyond z w)) zs) (not-true (beyond x z) both.0) rest
+        go (is_nan z) refl (every_of (λ w. not (beyond z w)) zs) (not-true (beyond x z) both.0) rest
       where
         here : n + 1 - (n + 1) ≡ 0
         here = omega arith
 
-        go : (t : Bool) → is_nan z ≡ t → (u : Bool) → beyond x z ≡ false → room_for beyond y (priceFrom n (z ∷ zs)) (candidates beyond (n + 1) zs) ≡ []
-            → room_for beyond y (priceFrom n (z ∷ zs)) (cond (not t && u) ((n + 1) ∷ candidates beyond (n + 1) zs) (candidates beyond (n + 1) zs)) ≡ []
+        go : (t : Bool) → is_nan z ≡ t → (u : Bool) → beyond x z ≡ false → room_for beyond y (price_from n (z ∷ zs)) (candidates beyond (n + 1) zs) ≡ []
+            → room_for beyond y (price_from n (z ∷ zs)) (cond (not t && u) ((n + 1) ∷ candidates beyond (n + 1) zs) (candidates beyond (n + 1) zs)) ≡ []
         go true h u below rest = rest
         go false h false below rest = rest
         go false h true below rest = rw (some n, here, o.split x z y h over below)
 
     -- the candidates of one price more
     pub newest-enters : (n : ℕ) (xs : List Float) (y : Float)
-        → candidates beyond n (xs ++ (y ∷ [])) ≡ room_for beyond y (priceFrom n xs) (candidates beyond n xs) ++ entered y (n + length xs + 1)
-    unfolding candidates everyOf room_for
+        → candidates beyond n (xs ++ (y ∷ [])) ≡ room_for beyond y (price_from n xs) (candidates beyond n xs) ++ entered y (n + length xs + 1)
+    unfolding candidates every_of room_for
     newest-enters n [] y =
         let e : n + 0 + 1 ≡ n + 1 = omega arith in
         rw e (go (is_nan y))
@@ -126,17 +126,17 @@ module _ (beyond : Float → Float → Bool) where
     newest-enters n (x ∷ xs) y =
         let size : n + suc (length xs) + 1 ≡ n + 1 + length xs + 1 = omega arith in
         rw (stays-more x xs y, newest-enters (n + 1) xs y, size)
-        (go (is_nan x) refl (everyOf (λ z. not (beyond x z)) xs) refl (beyond x y) refl)
+        (go (is_nan x) refl (every_of (λ z. not (beyond x z)) xs) refl (beyond x y) refl)
       where
         here : n + 1 - (n + 1) ≡ 0
         here = omega arith
 
-        shift : room_for beyond y (priceFrom n (x ∷ xs)) (candidates beyond (n + 1) xs) ≡ room_for beyond y (priceFrom (n + 1) xs) (candidates beyond (n + 1) xs)
+        shift : room_for beyond y (price_from n (x ∷ xs)) (candidates beyond (n + 1) xs) ≡ room_for beyond y (price_from (n + 1) xs) (candidates beyond (n + 1) xs)
         shift = room-shift y n (n + 1 + length xs) x xs (candidates beyond (n + 1) xs) (among_later beyond (n + 1) xs)
 
-        go : (s : Bool) → is_nan x ≡ s → (t : Bool) → everyOf (λ z. not (beyond x z)) xs ≡ t → (u : Bool) → beyond x y ≡ u
-            → cond ((not s && t) && not u) ((n + 1) ∷ room_for beyond y (priceFrom (n + 1) xs) (candidates beyond (n + 1) xs) ++ entered y (n + 1 + length xs + 1)) (room_for beyond y (priceFrom (n + 1) xs) (candidates beyond (n + 1) xs) ++ entered y (n + 1 + length xs + 1))
-            ≡ room_for beyond y (priceFrom n (x ∷ xs)) (cond (not s && t) ((n + 1) ∷ candidates beyond (n + 1) xs) (candidates beyond (n + 1) xs)) ++ entered y (n + 1 + length xs + 1)
+        go : (s : Bool) → is_nan x ≡ s → (t : Bool) → every_of (λ z. not (beyond x z)) xs ≡ t → (u : Bool) → beyond x y ≡ u
+            → cond ((not s && t) && not u) ((n + 1) ∷ room_for beyond y (price_from (n + 1) xs) (candidates beyond (n + 1) xs) ++ entered y (n + 1 + length xs + 1)) (room_for beyond y (price_from (n + 1) xs) (candidates beyond (n + 1) xs) ++ entered y (n + 1 + length xs + 1))
+            ≡ room_for beyond y (price_from n (x ∷ xs)) (cond (not s && t) ((n + 1) ∷ candidates beyond (n + 1) xs) (candidates beyond (n + 1) xs)) ++ entered y (n + 1 + length xs + 1)
         go true h t g u f = rw shift
         go false h false g u f = rw shift
         go false h true g true f = rw (some n, here, f, none_left x y (n + 1) xs g f)

@@ -9,11 +9,11 @@ use lib.Ieee.{Float, nan, inf, fin, binary64, up, down, level, eq, is_nan, fits,
 use lib.Ieee.Bits.{of_bits-to_bits}
 use Rattle.measures.specs.Bar.{Bar}
 use Rattle.measures.specs.declared.folds.Column.TheVariants.{High, Low}
-use Rattle.measures.specs.Fold.{columnOf, highestOf, lowestOf}
+use Rattle.measures.specs.Fold.{column_of, highest_of, lowest_of}
 use Rattle.measures.specs.Window.{newest}
 use Rattle.measures.proofs.FoldLaws.{known-highest, known-lowest}
 use Rattle.held_extremes.specs.declared.HeldExtremes.{HeldExtremes}
-use Rattle.held_extremes.specs.Candidate.{samePrice, sameOrdinals, sameHeld, held_of}
+use Rattle.held_extremes.specs.Candidate.{same_price, same_ordinals, same_held, held_of}
 
 -- ---- a known price equals itself
 
@@ -28,45 +28,45 @@ eq-same (inf true) h = refl
 eq-same (inf false) h = refl
 eq-same (fin s m e) h = level-same s (m * up e * down e)
 
-same-price : (x : Float) → is_nan x ≡ false → samePrice x x ≡ true
+same-price : (x : Float) → is_nan x ≡ false → same_price x x ≡ true
 same-price x h = rw (eq-same x h, eq-eqb (to_bits binary64 x) (to_bits binary64 x) refl)
 
-same-ordinals : (os : List ℕ) → sameOrdinals os os ≡ true
-unfolding sameOrdinals
+same-ordinals : (os : List ℕ) → same_ordinals os os ≡ true
+unfolding same_ordinals
 same-ordinals [] = refl
 same-ordinals (o ∷ os) = rw (eq-eqb o o refl) (same-ordinals os)
 
 -- what the bars give passes
-pub held-passes : (n : ℕ) (bars : List Bar) → sameHeld (held_of n bars) (held_of n bars) ≡ true
-unfolding sameHeld held_of
+pub held-passes : (n : ℕ) (bars : List Bar) → same_held (held_of n bars) (held_of n bars) ≡ true
+unfolding same_held held_of
 held-passes n bars =
     let w = newest 20 bars in
-    rw (same-price (highestOf (columnOf High w)) (known-highest (columnOf High w)), same-price (lowestOf (columnOf Low w)) (known-lowest (columnOf Low w)), same-ordinals (held_of n bars).highs) (same-ordinals (held_of n bars).lows)
+    rw (same-price (highest_of (column_of High w)) (known-highest (column_of High w)), same-price (lowest_of (column_of Low w)) (known-lowest (column_of Low w)), same-ordinals (held_of n bars).highs) (same-ordinals (held_of n bars).lows)
 
 -- ---- and nothing else does
 
-pub price-is : (x y : Float) → fits binary64 x ≡ true → fits binary64 y ≡ true → samePrice x y ≡ true → x ≡ y
+pub price-is : (x y : Float) → fits binary64 x ≡ true → fits binary64 y ≡ true → same_price x y ≡ true → x ≡ y
 price-is x y f g h =
     let bits = eqb-true (to_bits binary64 x) (to_bits binary64 y) ((and-eq-true_iff (eq x y) (eqb (to_bits binary64 x) (to_bits binary64 y))).0 h).1 in
     sym (of_bits-to_bits binary64 x (subst T (sym f) tt)) ∙ ap (of_bits binary64) bits ∙ of_bits-to_bits binary64 y (subst T (sym g) tt)
 
-ordinals-are : (a b : List ℕ) → sameOrdinals a b ≡ true → a ≡ b
-unfolding sameOrdinals
+ordinals-are : (a b : List ℕ) → same_ordinals a b ≡ true → a ≡ b
+unfolding same_ordinals
 ordinals-are [] [] h = refl
 ordinals-are [] (y ∷ ys) h = absurd (false≢true h)
 ordinals-are (x ∷ xs) [] h = absurd (false≢true h)
 ordinals-are (x ∷ xs) (y ∷ ys) h =
-    let both = (and-eq-true_iff (eqb x y) (sameOrdinals xs ys)).0 h in
+    let both = (and-eq-true_iff (eqb x y) (same_ordinals xs ys)).0 h in
     rw (eqb-true x y both.0, ordinals-are xs ys both.1)
 
-pub held-is : (a b : HeldExtremes) → (samePrice a.highest b.highest ≡ true → a.highest ≡ b.highest) → (samePrice a.lowest b.lowest ≡ true → a.lowest ≡ b.lowest)
-    → sameHeld a b ≡ true → a ≡ b
-unfolding sameHeld
+pub held-is : (a b : HeldExtremes) → (same_price a.highest b.highest ≡ true → a.highest ≡ b.highest) → (same_price a.lowest b.lowest ≡ true → a.lowest ≡ b.lowest)
+    → same_held a b ≡ true → a ≡ b
+unfolding same_held
 held-is a b highest lowest h =
-    let A = samePrice a.highest b.highest in
-    let B = samePrice a.lowest b.lowest in
-    let C = sameOrdinals a.highs b.highs in
-    let D = sameOrdinals a.lows b.lows in
+    let A = same_price a.highest b.highest in
+    let B = same_price a.lowest b.lowest in
+    let C = same_ordinals a.highs b.highs in
+    let D = same_ordinals a.lows b.lows in
     let three = (and-eq-true_iff (A && B && C) D).0 h in
     let two = (and-eq-true_iff (A && B) C).0 three.0 in
     let one = (and-eq-true_iff A B).0 two.0 in

@@ -8,12 +8,12 @@ use native.Mathlib.Numerals.{add-one}
 use lib.ListN.{length, get_or, take, drop, set, replicate, length-map, drop_of_length-le, get_or-map}
 use lib.Seq.{drop-cons, set_split, drop_at, drop-set-lt, length-take-le}
 use lib.Ieee.{Float, is_nan}
-use Rattle.measures.specs.Bar.{Bar, noBar}
+use Rattle.measures.specs.Bar.{Bar, no_bar}
 use Rattle.measures.specs.declared.folds.Column.{Column}
-use Rattle.measures.specs.Fold.{everyOf, priceOf, columnOf}
+use Rattle.measures.specs.Fold.{every_of, price_of, column_of}
 pub use Rattle.measures.proofs.Order.{reaches-up, reaches-down}
 use Rattle.measures.proofs.Order.{is-nan, both_ways}
-use Rattle.rule_types.specs.Number.{quarterBars}
+use Rattle.rule_types.specs.Number.{quarter_bars}
 use Rattle.held_extremes.specs.Candidate.{candidates, placed}
 use Rattle.held_extremes.proofs.CandidateLaws.{Way, Extreme, Tells, tells-new, tells-old, length-candidates}
 use Rattle.held_extremes.proofs.HeldLaws.{length-column}
@@ -33,7 +33,7 @@ set_before l at a = drop-set-lt (at + 1) l at a (omega arith)
 pub record Scanned (beyond : Float → Float → Bool) (c : List ℕ) (at : ℕ) (top : Float) (n : ℕ) (xs : List Float) : Type 0 where
   pub known : is_nan top ≡ false
   pub told : Tells beyond top xs
-  pub stand : drop at c ≡ candidates beyond n xs ++ replicate quarterBars 0
+  pub stand : drop at c ≡ candidates beyond n xs ++ replicate quarter_bars 0
 
 module _ (beyond : Float → Float → Bool) (o : Way beyond) where
   top-known : (x top : Float) → is_nan top ≡ false → is_nan (cond (beyond top x) x top) ≡ false
@@ -69,40 +69,40 @@ module _ (beyond : Float → Float → Bool) (o : Way beyond) where
       }
     where
       go : (t : Bool)
-          → cond t ((n + 1) ∷ candidates beyond (n + 1) xs ++ replicate quarterBars 0) (candidates beyond (n + 1) xs ++ replicate quarterBars 0)
-          ≡ cond t ((n + 1) ∷ candidates beyond (n + 1) xs) (candidates beyond (n + 1) xs) ++ replicate quarterBars 0
+          → cond t ((n + 1) ∷ candidates beyond (n + 1) xs ++ replicate quarter_bars 0) (candidates beyond (n + 1) xs ++ replicate quarter_bars 0)
+          ≡ cond t ((n + 1) ∷ candidates beyond (n + 1) xs) (candidates beyond (n + 1) xs) ++ replicate quarter_bars 0
       go true = refl
       go false = refl
 
 -- a column from its i-th price on, one more
 pub column-from : (c : Column) (bars : List Bar) (i : ℕ) → 1 ≤ i → i ≤ length bars
-    → drop (i - 1) (columnOf c bars) ≡ priceOf c (get_or bars (i - 1) noBar) ∷ drop i (columnOf c bars)
-unfolding columnOf
+    → drop (i - 1) (column_of c bars) ≡ price_of c (get_or bars (i - 1) no_bar) ∷ drop i (column_of c bars)
+unfolding column_of
 column-from c bars i one within =
     let e : suc (i - 1) ≡ i = omega arith in
-    let there : i - 1 < length (map (priceOf c) bars) = rw length-map (omega arith) in
-    drop-cons (map (priceOf c) bars) (i - 1) (priceOf c noBar) there ∙ rw (e, get_or-map (priceOf c) bars (i - 1) noBar)
+    let there : i - 1 < length (map (price_of c) bars) = rw length-map (omega arith) in
+    drop-cons (map (price_of c) bars) (i - 1) (price_of c no_bar) there ∙ rw (e, get_or-map (price_of c) bars (i - 1) no_bar)
 
 -- before the newest bar nothing is scanned
-no-price : (c : Column) (bars : List Bar) (i : ℕ) → i ≡ length bars → drop i (columnOf c bars) ≡ []
-unfolding columnOf
-no-price c bars i e = let past : length (map (priceOf c) bars) ≤ i = rw length-map (omega arith) in drop_of_length-le (map (priceOf c) bars) past
+no-price : (c : Column) (bars : List Bar) (i : ℕ) → i ≡ length bars → drop i (column_of c bars) ≡ []
+unfolding column_of
+no-price c bars i e = let past : length (map (price_of c) bars) ≤ i = rw length-map (omega arith) in drop_of_length-le (map (price_of c) bars) past
 
 pub scan-starts : (beyond : Float → Float → Bool) (f : Float → Float → Float) (start : Float) → Extreme beyond f start
-    → (c : Column) (top : Float) (s : List ℕ) (at n i : ℕ) (bars : List Bar) → top ≡ start → i ≡ length bars → drop at s ≡ replicate quarterBars 0
-    → Scanned beyond s at top n (drop i (columnOf c bars))
-unfolding candidates everyOf
+    → (c : Column) (top : Float) (s : List ℕ) (at n i : ℕ) (bars : List Bar) → top ≡ start → i ≡ length bars → drop at s ≡ replicate quarter_bars 0
+    → Scanned beyond s at top n (drop i (column_of c bars))
+unfolding candidates every_of
 scan-starts beyond f start x c top s at n i bars e l z =
     rw (no-price c bars i l, e) (record { known = x.known []; told = λ y. sym (ap not (x.none y)); stand = z })
 
 -- where the candidates begin
-pub stays_within : (is : Bool) (r at i len : ℕ) → r ≡ cond is (at - 1) at → at ≤ quarterBars → quarterBars + i ≤ at + len → 1 ≤ i → i ≤ len → (r ≤ quarterBars) × (quarterBars + (i - 1) ≤ r + len)
+pub stays_within : (is : Bool) (r at i len : ℕ) → r ≡ cond is (at - 1) at → at ≤ quarter_bars → quarter_bars + i ≤ at + len → 1 ≤ i → i ≤ len → (r ≤ quarter_bars) × (quarter_bars + (i - 1) ≤ r + len)
 stays_within true r at i len e h g one within = (omega arith, omega arith)
 stays_within false r at i len e h g one within = (omega arith, omega arith)
 
 -- twenty places from where the candidates begin
-pub scanned-places : (beyond : Float → Float → Bool) (c : Column) (n : ℕ) (w : List Bar) (s : List ℕ) (at : ℕ) → length w ≤ quarterBars
-    → drop at s ≡ candidates beyond n (columnOf c w) ++ replicate quarterBars 0
-    → take quarterBars (drop at s) ≡ placed (candidates beyond n (columnOf c w))
+pub scanned-places : (beyond : Float → Float → Bool) (c : Column) (n : ℕ) (w : List Bar) (s : List ℕ) (at : ℕ) → length w ≤ quarter_bars
+    → drop at s ≡ candidates beyond n (column_of c w) ++ replicate quarter_bars 0
+    → take quarter_bars (drop at s) ≡ placed (candidates beyond n (column_of c w))
 scanned-places beyond c n w s at small stand =
-    rw stand (placed-part (candidates beyond n (columnOf c w)) (omega (arith, length-candidates beyond n (columnOf c w), length-column c w)))
+    rw stand (placed-part (candidates beyond n (column_of c w)) (omega (arith, length-candidates beyond n (column_of c w), length-column c w)))

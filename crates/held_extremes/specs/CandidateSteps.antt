@@ -2,40 +2,40 @@
 use Rattle.std.specs.Prelude.{ℕ, ◌+◌, ◌-◌, Bool, true, false, cond, ◌||◌, List, [], ◌∷◌, ◌++◌, eqb, length, get_or, take, drop, Float}
 use Rattle.std.specs.Float.{inf}
 use Rattle.std.specs.Float.Ieee.{is_nan}
-use Rattle.measures.specs.Bar.{Bar, noBar}
+use Rattle.measures.specs.Bar.{Bar, no_bar}
 use Rattle.measures.specs.declared.folds.Column.{Column}
 use Rattle.measures.specs.declared.folds.Column.TheVariants.{High, Low}
-use Rattle.measures.specs.Fold.{priceOf}
-use Rattle.measures.specs.Window.{backOf}
-use Rattle.rule_types.specs.Number.{quarterBars}
+use Rattle.measures.specs.Fold.{price_of}
+use Rattle.measures.specs.Window.{back_of}
+use Rattle.rule_types.specs.Number.{quarter_bars}
 use Rattle.held_extremes.specs.declared.HeldExtremes.{HeldExtremes}
 use Rattle.held_extremes.specs.declared.Standing.{Standing}
 use Rattle.held_extremes.specs.Candidate.{greater, smaller, placed}
 
 -- the bar with an ordinal, of bars that follow some others
-abbrev pub barWith : ℕ → List Bar → ℕ → Bar
-barWith before bars ordinal = get_or bars (ordinal - (before + 1)) noBar
+abbrev pub bar_with : ℕ → List Bar → ℕ → Bar
+bar_with before bars ordinal = get_or bars (ordinal - (before + 1)) no_bar
 
 -- its price in a column
-abbrev pub barPrice : Column → ℕ → List Bar → ℕ → Float
-barPrice c before bars ordinal = priceOf c (barWith before bars ordinal)
+abbrev pub bar_price : Column → ℕ → List Bar → ℕ → Float
+bar_price c before bars ordinal = price_of c (bar_with before bars ordinal)
 
 -- 0 is no bar, for which the fold's infinity stands
-abbrev pub priceWith : Column → Float → ℕ → List Bar → ℕ → Float
-priceWith c none before bars ordinal = cond (eqb ordinal 0) none (barPrice c before bars ordinal)
+abbrev pub price_with : Column → Float → ℕ → List Bar → ℕ → Float
+price_with c none before bars ordinal = cond (eqb ordinal 0) none (bar_price c before bars ordinal)
 
 -- what is held, of lists in which its places stand
-abbrev pub standsIn : Standing → List ℕ → List ℕ → HeldExtremes
-standsIn s highs lows = record { highest = s.highest; lowest = s.lowest; highs = take quarterBars (drop s.high highs); lows = take quarterBars (drop s.low lows) }
+abbrev pub stands_in : Standing → List ℕ → List ℕ → HeldExtremes
+stands_in s highs lows = record { highest = s.highest; lowest = s.lowest; highs = take quarter_bars (drop s.high highs); lows = take quarter_bars (drop s.low lows) }
 
 -- ---- one bar more
 
 -- the column of the highest or of the lowest, and what is beyond there
-abbrev pub columnFor : Bool → Column
-columnFor high = cond high High Low
+abbrev pub column_for : Bool → Column
+column_for high = cond high High Low
 
-abbrev pub beyondFor : Bool → Float → Float → Bool
-beyondFor high x later = cond high (greater x later) (smaller x later)
+abbrev pub beyond_for : Bool → Float → Float → Bool
+beyond_for high x later = cond high (greater x later) (smaller x later)
 
 -- places without the first, if that has the bar that falls out
 abbrev pub left_of : ℕ → List ℕ → List ℕ
@@ -55,22 +55,22 @@ abbrev pub entered : Float → ℕ → List ℕ
 entered y last = cond (is_nan y) [] (last ∷ [])
 
 -- the candidates after a bar, the newest of these, came with the ordinal last
-abbrev pub nextOrdinals : (Float → Float → Bool) → Column → ℕ → ℕ → List Bar → List ℕ → List ℕ
-nextOrdinals beyond c before last bars places =
-    let y = priceOf c (backOf bars 1) in
-    room_for beyond y (barPrice c before bars) (take (quarterBars - 1) (left_of (last - quarterBars) places)) ++ entered y last
+abbrev pub next_ordinals : (Float → Float → Bool) → Column → ℕ → ℕ → List Bar → List ℕ → List ℕ
+next_ordinals beyond c before last bars places =
+    let y = price_of c (back_of bars 1) in
+    room_for beyond y (bar_price c before bars) (take (quarter_bars - 1) (left_of (last - quarter_bars) places)) ++ entered y last
 
 -- what is held then: the foremost is the first candidate's price
-abbrev pub heldFrom : ℕ → List Bar → List ℕ → List ℕ → HeldExtremes
-heldFrom before bars highs lows =
+abbrev pub held_from : ℕ → List Bar → List ℕ → List ℕ → HeldExtremes
+held_from before bars highs lows =
     record {
-      highest = priceWith High (inf true) before bars (get_or highs 0 0);
-      lowest = priceWith Low (inf false) before bars (get_or lows 0 0);
+      highest = price_with High (inf true) before bars (get_or highs 0 0);
+      lowest = price_with Low (inf false) before bars (get_or lows 0 0);
       highs = highs;
       lows = lows;
     }
 
-unfoldable pub nextHeld : HeldExtremes → ℕ → List Bar → HeldExtremes
-nextHeld h last bars =
+unfoldable pub next_held : HeldExtremes → ℕ → List Bar → HeldExtremes
+next_held h last bars =
     let before = last - length bars in
-    heldFrom before bars (placed (nextOrdinals greater High before last bars h.highs)) (placed (nextOrdinals smaller Low before last bars h.lows))
+    held_from before bars (placed (next_ordinals greater High before last bars h.highs)) (placed (next_ordinals smaller Low before last bars h.lows))

@@ -4,12 +4,12 @@
 ghost use Rattle.std.specs.Prelude.{◌≡◌, cond, true, false, ◌∷◌, ◌++◌, ◌+◌, ◌-◌, ◌*◌, ◌≤◌, ◌<◌, eqb, length, take, drop, set, replicate};
 ghost use Rattle.std.specs.Float.{inf};
 ghost use Rattle.std.specs.Float.Ieee.{is_nan};
-ghost use Rattle.measures.specs.Bar.{barsOf, overlay};
+ghost use Rattle.measures.specs.Bar.{bars_of, overlay};
 ghost use Rattle.measures.specs.declared.folds.Column.TheVariants.{High, Low};
-ghost use Rattle.measures.specs.Fold.{columnOf};
-ghost use Rattle.rule_types.specs.Number.{quarterBars};
-ghost use Rattle.held_extremes.specs.Candidate.{greater, smaller, candidates, samePrice, sameOrdinals, sameHeld, held_of};
-ghost use Rattle.held_extremes.specs.CandidateSteps.{standsIn, barWith, barPrice, priceWith, beyondFor, columnFor, is_room, room_for, nextOrdinals, nextHeld};
+ghost use Rattle.measures.specs.Fold.{column_of};
+ghost use Rattle.rule_types.specs.Number.{quarter_bars};
+ghost use Rattle.held_extremes.specs.Candidate.{greater, smaller, candidates, same_price, same_ordinals, same_held, held_of};
+ghost use Rattle.held_extremes.specs.CandidateSteps.{stands_in, bar_with, bar_price, price_with, beyond_for, column_for, is_room, room_for, next_ordinals, next_held};
 
 use measures::{Bar, least, pick, price};
 use rule_types::counts::QUARTER_BARS;
@@ -53,11 +53,11 @@ fn enter(c: &mut [u32], at: usize, ordinal: u32, is: bool) -> usize
 // a bar is a candidate: with the foremost price so far, of which only the value counts. A pick by what also moves the place would become a
 // branch: so there are two comparisons.
 fn scan(w: &[f64], before: u32, highs: &mut [u32], lows: &mut [u32]) -> Ends
-    requires { (length (barsOf w.now) ≤ quarterBars) × (before + length (barsOf w.now) ≤ 4294967295) × (length highs.old ≡ 2 * quarterBars + 1) × (length lows.old ≡ 2 * quarterBars + 1)
-        × (drop (quarterBars + 1) highs.old ≡ replicate quarterBars 0) × (drop (quarterBars + 1) lows.old ≡ replicate quarterBars 0) }
-    ensures { (result.high ≤ quarterBars + 1) × (result.low ≤ quarterBars + 1)
-        × (drop result.high highs.new ≡ candidates greater before (columnOf High (barsOf w.now)) ++ replicate quarterBars 0)
-        × (drop result.low lows.new ≡ candidates smaller before (columnOf Low (barsOf w.now)) ++ replicate quarterBars 0) }
+    requires { (length (bars_of w.now) ≤ quarter_bars) × (before + length (bars_of w.now) ≤ 4294967295) × (length highs.old ≡ 2 * quarter_bars + 1) × (length lows.old ≡ 2 * quarter_bars + 1)
+        × (drop (quarter_bars + 1) highs.old ≡ replicate quarter_bars 0) × (drop (quarter_bars + 1) lows.old ≡ replicate quarter_bars 0) }
+    ensures { (result.high ≤ quarter_bars + 1) × (result.low ≤ quarter_bars + 1)
+        × (drop result.high highs.new ≡ candidates greater before (column_of High (bars_of w.now)) ++ replicate quarter_bars 0)
+        × (drop result.low lows.new ≡ candidates smaller before (column_of Low (bars_of w.now)) ++ replicate quarter_bars 0) }
 {
     let mut high = QUARTER_BARS;
     let mut low = QUARTER_BARS;
@@ -81,7 +81,7 @@ fn scan(w: &[f64], before: u32, highs: &mut [u32], lows: &mut [u32]) -> Ends
 
 // The bar with an ordinal, of bars that follow some others.
 fn bar_with(w: &[f64], before: u32, ordinal: u32) -> Bar
-    ensures { result ≡ barWith before (barsOf w.now) ordinal }
+    ensures { result ≡ bar_with before (bars_of w.now) ordinal }
 {
     let o = ordinal as usize;
     measures::bar_or_none(w, o - least(o, before as usize + 1))
@@ -89,7 +89,7 @@ fn bar_with(w: &[f64], before: u32, ordinal: u32) -> Bar
 
 // Its high; minus infinity for none.
 fn high_with(w: &[f64], before: u32, ordinal: u32) -> f64
-    ensures { result ≡ priceWith High (inf true) before (barsOf w.now) ordinal }
+    ensures { result ≡ price_with High (inf true) before (bars_of w.now) ordinal }
 {
     pick(
         ordinal == 0,
@@ -100,7 +100,7 @@ fn high_with(w: &[f64], before: u32, ordinal: u32) -> f64
 
 // Its low; plus infinity for none.
 fn low_with(w: &[f64], before: u32, ordinal: u32) -> f64
-    ensures { result ≡ priceWith Low (inf false) before (barsOf w.now) ordinal }
+    ensures { result ≡ price_with Low (inf false) before (bars_of w.now) ordinal }
 {
     pick(
         ordinal == 0,
@@ -111,8 +111,8 @@ fn low_with(w: &[f64], before: u32, ordinal: u32) -> f64
 
 // Twenty places from one on.
 fn part(c: &[u32], from: usize) -> [u32; QUARTER_BARS]
-    requires { from + quarterBars ≤ length c.now }
-    ensures { result ≡ take quarterBars (drop from c.now) }
+    requires { from + quarter_bars ≤ length c.now }
+    ensures { result ≡ take quarter_bars (drop from c.now) }
 {
     let mut places = [0; QUARTER_BARS];
     let mut i = 0usize;
@@ -126,8 +126,8 @@ fn part(c: &[u32], from: usize) -> [u32; QUARTER_BARS]
 // Whether twenty places from one on are these, four at a time. It ends at the first four that are not: a loop that looks at all is unrolled
 // early, and then the box is copied once more.
 fn is_part(c: &[u32], from: usize, places: [u32; QUARTER_BARS]) -> bool
-    requires { from + quarterBars ≤ length c.now }
-    ensures { result ≡ sameOrdinals places (take quarterBars (drop from c.now)) }
+    requires { from + quarter_bars ≤ length c.now }
+    ensures { result ≡ same_ordinals places (take quarter_bars (drop from c.now)) }
 {
     let mut i = 0usize;
     while i < QUARTER_BARS {
@@ -145,7 +145,7 @@ fn is_part(c: &[u32], from: usize, places: [u32; QUARTER_BARS]) -> bool
 
 // Whether two prices are the same, signs of zero too; a NaN is never.
 fn same_price(x: f64, y: f64) -> bool
-    ensures { (result ≡ samePrice x y) × (result ≡ true → x ≡ y) }
+    ensures { (result ≡ same_price x y) × (result ≡ true → x ≡ y) }
 {
     if x == y {
         f64::to_bits(x) == f64::to_bits(y)
@@ -163,8 +163,8 @@ fn before_of(n: u32, newest: usize) -> u32
 
 // What a box holds that counts n bars and keeps these comes to stand in two lists.
 fn stand(prices: &[f64], n: u32, highs: &mut [u32], lows: &mut [u32]) -> Standing
-    requires { (highs.old ≡ replicate (2 * quarterBars + 1) 0) × (lows.old ≡ replicate (2 * quarterBars + 1) 0) }
-    ensures { (result.high ≤ quarterBars + 1) × (result.low ≤ quarterBars + 1) × (standsIn result highs.new lows.new ≡ held_of n (barsOf prices.now)) }
+    requires { (highs.old ≡ replicate (2 * quarter_bars + 1) 0) × (lows.old ≡ replicate (2 * quarter_bars + 1) 0) }
+    ensures { (result.high ≤ quarter_bars + 1) × (result.low ≤ quarter_bars + 1) × (stands_in result highs.new lows.new ≡ held_of n (bars_of prices.now)) }
 {
     let w = measures::last_bars(prices, 1, QUARTER_BARS);
     let before = before_of(n, measures::count(w));
@@ -181,7 +181,7 @@ fn stand(prices: &[f64], n: u32, highs: &mut [u32], lows: &mut [u32]) -> Standin
 
 // What a box holds that counts n bars and keeps these.
 pub fn held_of(prices: &[f64], n: u32) -> HeldExtremes
-    ensures { result ≡ held_of n (barsOf prices.now) }
+    ensures { result ≡ held_of n (bars_of prices.now) }
 {
     let mut highs = [0; 2 * QUARTER_BARS + 1];
     let mut lows = [0; 2 * QUARTER_BARS + 1];
@@ -196,8 +196,8 @@ pub fn held_of(prices: &[f64], n: u32) -> HeldExtremes
 
 // Whether this is what a box holds that counts n bars and keeps these.
 pub fn is_held(h: HeldExtremes, prices: &[f64], n: u32) -> bool
-    ensures answer { result ≡ sameHeld h (held_of n (barsOf prices.now)) }
-    ensures equal { result ≡ true → h ≡ held_of n (barsOf prices.now) }
+    ensures answer { result ≡ same_held h (held_of n (bars_of prices.now)) }
+    ensures equal { result ≡ true → h ≡ held_of n (bars_of prices.now) }
 {
     let mut highs = [0; 2 * QUARTER_BARS + 1];
     let mut lows = [0; 2 * QUARTER_BARS + 1];
@@ -212,7 +212,7 @@ pub fn is_held(h: HeldExtremes, prices: &[f64], n: u32) -> bool
 
 // One bar more: whether a place makes room, being empty, or having a bar that the new price is beyond.
 fn is_room(high: bool, w: &[f64], before: u32, ordinal: u32, y: f64) -> bool
-    ensures { result ≡ is_room (beyondFor high) y (barPrice (columnFor high) before (barsOf w.now)) ordinal }
+    ensures { result ≡ is_room (beyond_for high) y (bar_price (column_for high) before (bars_of w.now)) ordinal }
 {
     if ordinal == 0 {
         return true;
@@ -231,10 +231,10 @@ fn keep(
     y: f64,
     out: &mut [u32],
 ) -> usize
-    requires { (from ≤ 1) × (length c.now ≡ quarterBars) × (length out.old ≡ quarterBars) }
-    ensures { (result ≡ length (room_for (beyondFor high) y (barPrice (columnFor high) before (barsOf w.now)) (take (quarterBars - 1) (drop from c.now))))
-        × (result < quarterBars)
-        × (out.new ≡ overlay out.old 0 (room_for (beyondFor high) y (barPrice (columnFor high) before (barsOf w.now)) (take (quarterBars - 1) (drop from c.now)))) }
+    requires { (from ≤ 1) × (length c.now ≡ quarter_bars) × (length out.old ≡ quarter_bars) }
+    ensures { (result ≡ length (room_for (beyond_for high) y (bar_price (column_for high) before (bars_of w.now)) (take (quarter_bars - 1) (drop from c.now))))
+        × (result < quarter_bars)
+        × (out.new ≡ overlay out.old 0 (room_for (beyond_for high) y (bar_price (column_for high) before (bars_of w.now)) (take (quarter_bars - 1) (drop from c.now)))) }
 {
     let mut i = 0usize;
     while i < QUARTER_BARS - 1 {
@@ -250,7 +250,7 @@ fn keep(
 
 // Where the places begin without the bar that falls out.
 fn after_oldest(first: u32, last: u32) -> usize
-    ensures { result ≡ cond (eqb first (last - quarterBars)) 1 0 }
+    ensures { result ≡ cond (eqb first (last - quarter_bars)) 1 0 }
 {
     if first == before_of(last, QUARTER_BARS) {
         1
@@ -272,8 +272,8 @@ fn put_new(out: &mut [u32], at: usize, last: u32, y: f64)
 
 // The candidates of one side after one bar more go over the first places of another.
 fn next_places(high: bool, c: &[u32], w: &[f64], before: u32, last: u32, out: &mut [u32])
-    requires { (length c.now ≡ quarterBars) × (length out.old ≡ quarterBars) }
-    ensures { out.new ≡ overlay out.old 0 (nextOrdinals (beyondFor high) (columnFor high) before last (barsOf w.now) c.now) }
+    requires { (length c.now ≡ quarter_bars) × (length out.old ≡ quarter_bars) }
+    ensures { out.new ≡ overlay out.old 0 (next_ordinals (beyond_for high) (column_for high) before last (bars_of w.now) c.now) }
 {
     let b = measures::back(w, 1);
     let y = pick(high, b.high, b.low);
@@ -283,7 +283,7 @@ fn next_places(high: bool, c: &[u32], w: &[f64], before: u32, last: u32, out: &m
 
 // What a box holds after one bar more, from what it held before: these are bars of which the newest is new, with the ordinal last.
 pub fn held_next(h: HeldExtremes, prices: &[f64], last: u32) -> HeldExtremes
-    ensures { result ≡ nextHeld h last (barsOf prices.now) }
+    ensures { result ≡ next_held h last (bars_of prices.now) }
 {
     let before = before_of(last, measures::count(prices));
     let held_highs = h.highs;

@@ -8,54 +8,54 @@ use native.Mathlib.Omega.{arith}
 use lib.Dec.{eqb}
 use lib.ListN.{length, take, drop, replicate}
 use lib.Seq.{take-append_seam}
-use Rattle.rule_types.specs.Number.{longestLine}
+use Rattle.rule_types.specs.Number.{longest_line}
 use Rattle.input_lines.specs.declared.lines.Partial.{Partial}
-use Rattle.input_lines.specs.Lines.{lineFeed, piecesFrom, pieces_of, endedLines, lines_from, lines_of, run_of, pieceEnd, keptLine, content, partialOf}
+use Rattle.input_lines.specs.Lines.{line_feed, pieces_from, pieces_of, ended_lines, lines_from, lines_of, run_of, piece_end, kept_line, content, partial_of}
 use Rattle.input_lines.proofs.PartLaws.{to_end}
 
 -- ---- pieces
 
 -- no separator: one piece
-pub pieces-last : (sep : ℕ) (cur s : List ℕ) → pieceEnd sep s ≡ length s → piecesFrom sep cur s ≡ (cur ++ s) ∷ []
-unfolding piecesFrom run_of
+pub pieces-last : (sep : ℕ) (cur s : List ℕ) → piece_end sep s ≡ length s → pieces_from sep cur s ≡ (cur ++ s) ∷ []
+unfolding pieces_from run_of
 pieces-last sep cur [] e = rw append-nil
 pieces-last sep cur (b ∷ bs) e = go (eqb b sep) (pieces-last sep (cur ++ (b ∷ [])) bs) e
   where
-    go : (t : Bool) → (pieceEnd sep bs ≡ length bs → piecesFrom sep (cur ++ (b ∷ [])) bs ≡ ((cur ++ (b ∷ [])) ++ bs) ∷ [])
-        → cond (not t) (suc (pieceEnd sep bs)) 0 ≡ suc (length bs)
-        → cond t (cur ∷ piecesFrom sep [] bs) (piecesFrom sep (cur ++ (b ∷ [])) bs) ≡ (cur ++ (b ∷ bs)) ∷ []
+    go : (t : Bool) → (piece_end sep bs ≡ length bs → pieces_from sep (cur ++ (b ∷ [])) bs ≡ ((cur ++ (b ∷ [])) ++ bs) ∷ [])
+        → cond (not t) (suc (piece_end sep bs)) 0 ≡ suc (length bs)
+        → cond t (cur ∷ pieces_from sep [] bs) (pieces_from sep (cur ++ (b ∷ [])) bs) ≡ (cur ++ (b ∷ bs)) ∷ []
     go true rest e = absurd (omega arith)
     go false rest e = rest (omega arith) ∙ rw append_assoc
 
 -- the piece before the first separator, and those behind it
-pub pieces-next : (sep : ℕ) (cur s : List ℕ) → pieceEnd sep s < length s
-    → piecesFrom sep cur s ≡ (cur ++ take (pieceEnd sep s) s) ∷ pieces_of sep (drop (pieceEnd sep s + 1) s)
-unfolding piecesFrom run_of
+pub pieces-next : (sep : ℕ) (cur s : List ℕ) → piece_end sep s < length s
+    → pieces_from sep cur s ≡ (cur ++ take (piece_end sep s) s) ∷ pieces_of sep (drop (piece_end sep s + 1) s)
+unfolding pieces_from run_of
 pieces-next sep cur [] h = absurd (omega arith)
 pieces-next sep cur (b ∷ bs) h = go (eqb b sep) (pieces-next sep (cur ++ (b ∷ [])) bs) h
   where
     go : (t : Bool)
-        → (pieceEnd sep bs < length bs
-        → piecesFrom sep (cur ++ (b ∷ [])) bs ≡ ((cur ++ (b ∷ [])) ++ take (pieceEnd sep bs) bs) ∷ pieces_of sep (drop (pieceEnd sep bs + 1) bs))
-        → let k = cond (not t) (suc (pieceEnd sep bs)) 0 in
+        → (piece_end sep bs < length bs
+        → pieces_from sep (cur ++ (b ∷ [])) bs ≡ ((cur ++ (b ∷ [])) ++ take (piece_end sep bs) bs) ∷ pieces_of sep (drop (piece_end sep bs + 1) bs))
+        → let k = cond (not t) (suc (piece_end sep bs)) 0 in
         k < suc (length bs)
-        → cond t (cur ∷ piecesFrom sep [] bs) (piecesFrom sep (cur ++ (b ∷ [])) bs) ≡ (cur ++ take k (b ∷ bs)) ∷ pieces_of sep (drop (k + 1) (b ∷ bs))
+        → cond t (cur ∷ pieces_from sep [] bs) (pieces_from sep (cur ++ (b ∷ [])) bs) ≡ (cur ++ take k (b ∷ bs)) ∷ pieces_of sep (drop (k + 1) (b ∷ bs))
     go true rest h = rw append-nil
-    go false rest h = rest (omega arith) ∙ rw (append_assoc, add-one (pieceEnd sep bs), add-one (suc (pieceEnd sep bs)))
+    go false rest h = rest (omega arith) ∙ rw (append_assoc, add-one (piece_end sep bs), add-one (suc (piece_end sep bs)))
 
 -- there is always a piece
-pub pieces-some : (sep : ℕ) (cur s : List ℕ) → 1 ≤ length (piecesFrom sep cur s)
-unfolding piecesFrom
+pub pieces-some : (sep : ℕ) (cur s : List ℕ) → 1 ≤ length (pieces_from sep cur s)
+unfolding pieces_from
 pieces-some sep cur [] = omega arith
 pieces-some sep cur (b ∷ bs) = go (eqb b sep) (pieces-some sep (cur ++ (b ∷ [])) bs)
   where
-    go : (t : Bool) → 1 ≤ length (piecesFrom sep (cur ++ (b ∷ [])) bs)
-        → 1 ≤ length (cond t (cur ∷ piecesFrom sep [] bs) (piecesFrom sep (cur ++ (b ∷ [])) bs))
+    go : (t : Bool) → 1 ≤ length (pieces_from sep (cur ++ (b ∷ [])) bs)
+        → 1 ≤ length (cond t (cur ∷ pieces_from sep [] bs) (pieces_from sep (cur ++ (b ∷ [])) bs))
     go true rest = omega arith
     go false rest = rest
 
 -- both cases from a place k that is known to be the first piece's end
-module _ (sep : ℕ) (s : List ℕ) (k : ℕ) (e : k ≡ pieceEnd sep s) where
+module _ (sep : ℕ) (s : List ℕ) (k : ℕ) (e : k ≡ piece_end sep s) where
   pub pieces_whole : length s ≤ k → k ≤ length s → pieces_of sep s ≡ s ∷ []
   pieces_whole h g = pieces-last sep [] s (omega arith)
 
@@ -65,33 +65,33 @@ module _ (sep : ℕ) (s : List ℕ) (k : ℕ) (e : k ≡ pieceEnd sep s) where
 -- ---- lines
 
 pub lines_end : lines_from [] [] ≡ []
-unfolding piecesFrom endedLines
+unfolding pieces_from ended_lines
 lines_end = refl
 
 pub lines-last : (b : ℕ) (bs : List ℕ) → lines_from (b ∷ bs) [] ≡ (b ∷ bs) ∷ []
-unfolding piecesFrom endedLines
+unfolding pieces_from ended_lines
 lines-last b bs = refl
 
 -- a piece with another behind it is a line
-ended-more : (l : List ℕ) (ls : List (List ℕ)) → 1 ≤ length ls → endedLines (l ∷ ls) ≡ l ∷ endedLines ls
-unfolding endedLines
+ended-more : (l : List ℕ) (ls : List (List ℕ)) → 1 ≤ length ls → ended_lines (l ∷ ls) ≡ l ∷ ended_lines ls
+unfolding ended_lines
 ended-more l [] h = absurd (omega arith)
 ended-more l (m ∷ ls) h = refl
 
-pub lines-feed : (cur s : List ℕ) → lines_from cur (lineFeed ∷ s) ≡ cur ∷ lines_from [] s
-unfolding piecesFrom
-lines-feed cur s = ended-more cur (pieces_of lineFeed s) (pieces-some lineFeed [] s)
+pub lines-feed : (cur s : List ℕ) → lines_from cur (line_feed ∷ s) ≡ cur ∷ lines_from [] s
+unfolding pieces_from
+lines-feed cur s = ended-more cur (pieces_of line_feed s) (pieces-some line_feed [] s)
 
-pub lines-byte : (cur : List ℕ) (b : ℕ) (s : List ℕ) → eqb b lineFeed ≡ false → lines_from cur (b ∷ s) ≡ lines_from (cur ++ (b ∷ [])) s
-unfolding piecesFrom
+pub lines-byte : (cur : List ℕ) (b : ℕ) (s : List ℕ) → eqb b line_feed ≡ false → lines_from cur (b ∷ s) ≡ lines_from (cur ++ (b ∷ [])) s
+unfolding pieces_from
 lines-byte cur b s e = rw e
 
-pub lines-first : (s : List ℕ) → pieceEnd lineFeed s < length s
-    → lines_of s ≡ take (pieceEnd lineFeed s) s ∷ lines_of (drop (pieceEnd lineFeed s + 1) s)
+pub lines-first : (s : List ℕ) → piece_end line_feed s < length s
+    → lines_of s ≡ take (piece_end line_feed s) s ∷ lines_of (drop (piece_end line_feed s + 1) s)
 lines-first s h =
-    let k = pieceEnd lineFeed s in
+    let k = piece_end line_feed s in
     let rest = drop (k + 1) s in
-    rw (pieces-next lineFeed [] s h) (ended-more (take k s) (pieces_of lineFeed rest) (pieces-some lineFeed [] rest))
+    rw (pieces-next line_feed [] s h) (ended-more (take k s) (pieces_of line_feed rest) (pieces-some line_feed [] rest))
 
 -- ---- a line that has begun
 
@@ -101,18 +101,18 @@ take-front zero a b = refl
 take-front (suc n) [] b = refl
 take-front (suc n) (x ∷ a) b = ap (λ (l : List ℕ). x ∷ l) (take-front n a b)
 
-pub kept-kept : (a b : List ℕ) → keptLine (keptLine a ++ b) ≡ keptLine (a ++ b)
-kept-kept a b = take-front (suc longestLine) a b
+pub kept-kept : (a b : List ℕ) → kept_line (kept_line a ++ b) ≡ kept_line (a ++ b)
+kept-kept a b = take-front (suc longest_line) a b
 
 -- the line of some bytes, its content, and what it is field by field
-pub content-partial : (l : List ℕ) → content (partialOf l) ≡ l
-unfolding partialOf
-content-partial l = take-append_seam l (replicate (suc longestLine - length l) 0)
+pub content-partial : (l : List ℕ) → content (partial_of l) ≡ l
+unfolding partial_of
+content-partial l = take-append_seam l (replicate (suc longest_line - length l) 0)
 
-pub partial-is : (l bytes : List ℕ) (n : ℕ) → length l ≡ n → bytes ≡ l ++ replicate (suc longestLine - n) 0 → record { bytes = bytes; len = n } ≡ partialOf l
-unfolding partialOf
+pub partial-is : (l bytes : List ℕ) (n : ℕ) → length l ≡ n → bytes ≡ l ++ replicate (suc longest_line - n) 0 → record { bytes = bytes; len = n } ≡ partial_of l
+unfolding partial_of
 partial-is l bytes n e is = rw (is, e)
 
-pub partial-fields : (p : Partial) (l : List ℕ) → p ≡ partialOf l → (p.bytes ≡ l ++ replicate (suc longestLine - length l) 0) × (p.len ≡ length l)
-unfolding partialOf
+pub partial-fields : (p : Partial) (l : List ℕ) → p ≡ partial_of l → (p.bytes ≡ l ++ replicate (suc longest_line - length l) 0) × (p.len ≡ length l)
+unfolding partial_of
 partial-fields p l e = (ap (λ (q : Partial). q.bytes) e, ap (λ (q : Partial). q.len) e)

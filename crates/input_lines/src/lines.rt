@@ -1,6 +1,6 @@
 // The splitting of an input into lines.
 ghost use Rattle.std.specs.Prelude.{◌≡◌, [], ◌++◌, ◌≤◌, eqb, length};
-ghost use Rattle.input_lines.specs.Lines.{pieceEnd, keptLine, content, partialOf};
+ghost use Rattle.input_lines.specs.Lines.{piece_end, kept_line, content, partial_of};
 
 use measures::least;
 
@@ -18,7 +18,7 @@ pub const KEPT_BYTES: usize = LONGEST_LINE + 1;
 
 // How many bytes of s come before the first separator: all, if it has none.
 pub fn piece_end(separator: u8, s: &[u8]) -> usize
-    ensures { (result ≡ pieceEnd separator s.now) × (result ≤ length s.now) }
+    ensures { (result ≡ piece_end separator s.now) × (result ≤ length s.now) }
 {
     let mut i = 0usize;
     while i < s.len() {
@@ -39,7 +39,7 @@ pub struct Partial {
 
 // A line that has no bytes yet.
 pub fn begin() -> Partial
-    ensures { result ≡ partialOf [] }
+    ensures { result ≡ partial_of [] }
 {
     Partial {
         bytes: [0; KEPT_BYTES],
@@ -49,8 +49,8 @@ pub fn begin() -> Partial
 
 // The bytes of s behind those of a line that has zeros there.
 fn append(line: Partial, s: &[u8]) -> Partial
-    requires { line ≡ partialOf (content line) }
-    ensures { result ≡ partialOf (keptLine (content line ++ s.now)) }
+    requires { line ≡ partial_of (content line) }
+    ensures { result ≡ partial_of (kept_line (content line ++ s.now)) }
 {
     let at = line.len;
     let n = least(s.len(), KEPT_BYTES - at);
@@ -66,7 +66,7 @@ fn append(line: Partial, s: &[u8]) -> Partial
 // The line with the bytes of s behind it. Of the line only the bytes that count are copied, so that the answer is one value, whatever a
 // caller left behind them.
 pub fn extend(line: Partial, s: &[u8]) -> Partial
-    ensures { result ≡ partialOf (keptLine (content line ++ s.now)) }
+    ensures { result ≡ partial_of (kept_line (content line ++ s.now)) }
 {
     let bytes = line.bytes;
     let begun = least(line.len, KEPT_BYTES);

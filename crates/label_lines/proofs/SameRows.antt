@@ -7,11 +7,11 @@ use mathlib.Core.Path.{refl, ap}
 use lib.Dec.{ltb}
 use lib.ListN.{length}
 use Rattle.measures.specs.Bar.{Bar}
-use Rattle.recognisers.specs.Number.{mostBars}
+use Rattle.recognisers.specs.Number.{most_bars}
 use Rattle.text.specs.declared.line_text.Line.{Line, TheVariants.Prices, TheVariants.BadShape, TheVariants.BadPrice}
 use Rattle.text.specs.LineText.{line_of}
 use Rattle.input_lines.specs.Lines.{lines_of}
-use Rattle.label_lines.specs.History.{newestLines, linesPrint, historyPrints}
+use Rattle.label_lines.specs.History.{newest_lines, lines_print, history_prints}
 use Rattle.label_lines.specs.SameRows.{by8, Same, SameRows}
 use Rattle.label_lines.proofs.HistoryRows.{history-output}
 
@@ -20,17 +20,17 @@ behind : (xs now then : List ℕ) → Same now then → Same (xs ++ now) (xs ++ 
 behind xs now then (inl e) = inl (ap (λ (l : List ℕ). xs ++ l) e)
 behind xs now then (inr (rows, ordinal, place, a, b)) = inr (xs ++ rows, ordinal, place, rw (a, append_assoc), rw (b, append_assoc))
 
-same-prints : (h : List Bar) (lines : List Line) → Same (historyPrints h lines) (historyPrints h (map by8 lines))
-unfolding linesPrint
+same-prints : (h : List Bar) (lines : List Line) → Same (history_prints h lines) (history_prints h (map by8 lines))
+unfolding lines_print
 same-prints h [] = inl refl
 same-prints h (BadShape ∷ lines) = inl refl
 same-prints h (BadPrice place ∷ lines) = inr ([], length h + 1, place, refl, refl)
-same-prints h (Prices bar ∷ lines) = go (ltb (length h) mostBars) _ (same-prints (h ++ (bar ∷ [])) lines)
+same-prints h (Prices bar ∷ lines) = go (ltb (length h) most_bars) _ (same-prints (h ++ (bar ∷ [])) lines)
   where
     go : (t : Bool) (end : List ℕ) → let more = h ++ (bar ∷ []) in
-        Same (historyPrints more lines) (historyPrints more (map by8 lines))
-        → Same (cond t (newestLines more ++ historyPrints more lines) end) (cond t (newestLines more ++ historyPrints more (map by8 lines)) end)
-    go true end rest = behind (newestLines (h ++ (bar ∷ []))) _ _ rest
+        Same (history_prints more lines) (history_prints more (map by8 lines))
+        → Same (cond t (newest_lines more ++ history_prints more lines) end) (cond t (newest_lines more ++ history_prints more (map by8 lines)) end)
+    go true end rest = behind (newest_lines (h ++ (bar ∷ []))) _ _ rest
     go false end rest = inl refl
 
 pub same_rows : (input : List ℕ) → SameRows input

@@ -1,17 +1,17 @@
 -- "The labels program": what it prints for an input.
 use Rattle.std.specs.Prelude.{ℕ, ◌+◌, Bool, true, false, cond, List, [], ◌∷◌, ◌++◌, replicate}
-use Rattle.measures.specs.Bar.{Bar, pricesOf}
+use Rattle.measures.specs.Bar.{Bar, prices_of}
 use Rattle.answers.specs.declared.refusals.Verdict.{Verdict, TheVariants.Accepted, TheVariants.Denied}
 use Rattle.answers.specs.declared.refusals.Refusal.TheVariants as refusal
-use Rattle.recognisers.specs.Number.{rowBytes}
-use Rattle.recognisers.specs.Threshold.{standardSet}
+use Rattle.recognisers.specs.Number.{row_bytes}
+use Rattle.recognisers.specs.Threshold.{standard_set}
 use Rattle.box_record.specs.declared.boxes.BarBox.{BarBox}
-use Rattle.bar_box.specs.Box.{freshBox, fedOf, sheetOf}
+use Rattle.bar_box.specs.Box.{fresh_box, fed_of, sheet_of}
 use Rattle.text.specs.declared.line_text.Line.{Line, TheVariants.Prices, TheVariants.BadShape, TheVariants.BadPrice}
 use Rattle.text.specs.LineText.{line_of}
 use Rattle.input_lines.specs.Lines.{lines_of}
 use Rattle.output_lines.specs.declared.output.Stop.{Stop, TheVariants.By, TheVariants.Price}
-use Rattle.output_lines.specs.Output.{row_lines, refusalLine}
+use Rattle.output_lines.specs.Output.{row_lines, refusal_line}
 
 -- ---- a line of input
 
@@ -22,35 +22,35 @@ pub record Step : Type 0 where
   pub stops : Bool
 
 -- a refused line leaves the box; its ordinal is one more than the bars before
-abbrev pub refusedStep : BarBox → Stop → Step
-refusedStep b stop = record { printed = refusalLine (b.count + 1) stop; after = b; stops = true }
+abbrev pub refused_step : BarBox → Stop → Step
+refused_step b stop = record { printed = refusal_line (b.count + 1) stop; after = b; stops = true }
 
 -- an accepted bar prints its rows, a refused one the refusal, and stops
-abbrev pub judgedOf : Verdict → BarBox → List ℕ → BarBox → Step
-judgedOf Accepted b sheet after = record { printed = row_lines (b.count + 1) 0 sheet; after = after; stops = false }
-judgedOf (Denied r) b sheet after = refusedStep b (By r)
+abbrev pub judged_of : Verdict → BarBox → List ℕ → BarBox → Step
+judged_of Accepted b sheet after = record { printed = row_lines (b.count + 1) 0 sheet; after = after; stops = false }
+judged_of (Denied r) b sheet after = refused_step b (By r)
 
 -- a bar is fed by itself, with a sheet for its row
-unfoldable pub fedStep : BarBox → Bar → Step
-fedStep b bar =
-    judgedOf (fedOf b (pricesOf (bar ∷ [])) rowBytes).verdict b (sheetOf b (pricesOf (bar ∷ [])) (replicate rowBytes 0)) (fedOf b (pricesOf (bar ∷ [])) rowBytes).after
+unfoldable pub fed_step : BarBox → Bar → Step
+fed_step b bar =
+    judged_of (fed_of b (prices_of (bar ∷ [])) row_bytes).verdict b (sheet_of b (prices_of (bar ∷ [])) (replicate row_bytes 0)) (fed_of b (prices_of (bar ∷ [])) row_bytes).after
 
 -- a line is read as text first, then fed as one bar
 abbrev pub read_step : BarBox → Line → Step
-read_step b (Prices bar) = fedStep b bar
-read_step b BadShape = refusedStep b (By refusal.BadShape)
-read_step b (BadPrice place) = refusedStep b (Price place)
+read_step b (Prices bar) = fed_step b bar
+read_step b BadShape = refused_step b (By refusal.BadShape)
+read_step b (BadPrice place) = refused_step b (Price place)
 
-unfoldable pub lineStep : BarBox → List ℕ → Step
-lineStep b line = read_step b (line_of line)
+unfoldable pub line_step : BarBox → List ℕ → Step
+line_step b line = read_step b (line_of line)
 
 -- ---- the program
 
 -- what lines print, one after the other, up to the first that stops
-unfoldable pub printedOf : BarBox → List (List ℕ) → List ℕ
-printedOf b [] = []
-printedOf b (line ∷ lines) = (lineStep b line).printed ++ cond (lineStep b line).stops [] (printedOf (lineStep b line).after lines)
+unfoldable pub printed_of : BarBox → List (List ℕ) → List ℕ
+printed_of b [] = []
+printed_of b (line ∷ lines) = (line_step b line).printed ++ cond (line_step b line).stops [] (printed_of (line_step b line).after lines)
 
 -- what an input prints, with the standard set
-abbrev pub outputOf : List ℕ → List ℕ
-outputOf input = printedOf (freshBox standardSet) (lines_of input)
+abbrev pub output_of : List ℕ → List ℕ
+output_of input = printed_of (fresh_box standard_set) (lines_of input)

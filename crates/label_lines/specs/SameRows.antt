@@ -6,9 +6,9 @@ use Rattle.text.specs.declared.line_text.Line.{Line, TheVariants.Prices, TheVari
 use Rattle.text.specs.LineText.{line_of}
 use Rattle.input_lines.specs.Lines.{lines_of}
 use Rattle.output_lines.specs.declared.output.Stop.TheVariants.{By, Price}
-use Rattle.output_lines.specs.Output.{refusalLine}
-use Rattle.label_lines.specs.Output.{outputOf}
-use Rattle.label_lines.specs.History.{historyPrints}
+use Rattle.output_lines.specs.Output.{refusal_line}
+use Rattle.label_lines.specs.Output.{output_of}
+use Rattle.label_lines.specs.History.{history_prints}
 
 -- a line of which it is said no more than 8
 abbrev pub by8 : Line → Line
@@ -20,7 +20,7 @@ by8 (BadPrice place) = BadShape
 abbrev pub Same : List ℕ → List ℕ → Type 0
 Same now then =
     (now ≡ then)
-    ⊎ ((rows : List ℕ) × (ordinal : ℕ) × (place : ℕ) × (now ≡ rows ++ refusalLine ordinal (Price place)) × (then ≡ rows ++ refusalLine ordinal (By refusal.BadShape)))
+    ⊎ ((rows : List ℕ) × (ordinal : ℕ) × (place : ℕ) × (now ≡ rows ++ refusal_line ordinal (Price place)) × (then ≡ rows ++ refusal_line ordinal (By refusal.BadShape)))
 
 abbrev pub SameRows : List ℕ → Type 0
-SameRows input = Same (outputOf input) (historyPrints [] (map by8 (map line_of (lines_of input))))
+SameRows input = Same (output_of input) (history_prints [] (map by8 (map line_of (lines_of input))))

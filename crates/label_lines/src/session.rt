@@ -2,9 +2,9 @@
 ghost use Rattle.std.specs.Prelude.{◌≡◌, false, ◌+◌, ◌-◌, ◌≤◌, length, take};
 ghost use Rattle.measures.specs.Bar.{overlay};
 ghost use Rattle.input_lines.specs.Lines.{content};
-ghost use Rattle.output_lines.specs.Output.{lineRoom, lineIn, Written};
-ghost use Rattle.label_lines.specs.Output.{refusedStep, fedStep, lineStep};
-ghost use Rattle.label_lines.specs.Session.{state_of, sessionOf, freshState, stateAfter, prints, usedOf, takenBytes, absorbedOf, endPrints};
+ghost use Rattle.output_lines.specs.Output.{line_room, line_in, Written};
+ghost use Rattle.label_lines.specs.Output.{refused_step, fed_step, line_step};
+ghost use Rattle.label_lines.specs.Session.{state_of, session_of, fresh_state, state_after, prints, used_of, taken_bytes, absorbed_of, end_prints};
 ghost use Rattle.label_lines.specs.SessionSteps.{Takes};
 
 use bar_box::BarBox;
@@ -43,7 +43,7 @@ pub struct Absorbed {
 
 // Before the first byte.
 pub fn begin() -> Session
-    ensures { result ≡ sessionOf freshState }
+    ensures { result ≡ session_of fresh_state }
 {
     let standard = Thresholds::standard();
     let made = bar_box::make(standard);
@@ -57,8 +57,8 @@ pub fn begin() -> Session
 }
 
 fn refuse(held: BarBox, stop: Stop, out: &mut [u8], at: usize) -> Stepped
-    requires { at + lineRoom ≤ length out.old }
-    ensures { Takes (refusedStep held stop) result out.old at out.new }
+    requires { at + line_room ≤ length out.old }
+    ensures { Takes (refused_step held stop) result out.old at out.new }
 {
     let ordinal = held.count as u64 + 1;
     let end = print_refusal(ordinal, stop, out, at);
@@ -71,8 +71,8 @@ fn refuse(held: BarBox, stop: Stop, out: &mut [u8], at: usize) -> Stepped
 
 // Feeds one bar and prints its rows.
 fn feed_bar(held: BarBox, bar: Bar, out: &mut [u8], at: usize) -> Stepped
-    requires { at + lineRoom ≤ length out.old }
-    ensures { Takes (fedStep held bar) result out.old at out.new }
+    requires { at + line_room ≤ length out.old }
+    ensures { Takes (fed_step held bar) result out.old at out.new }
 {
     let ordinal = held.count as u64 + 1;
     let mut prices = [0.0; 4];
@@ -104,8 +104,8 @@ fn feed_bar(held: BarBox, bar: Bar, out: &mut [u8], at: usize) -> Stepped
 
 // The end of a line.
 fn step(held: BarBox, line: Partial, out: &mut [u8], at: usize) -> Stepped
-    requires { at + lineRoom ≤ length out.old }
-    ensures { Takes (lineStep held (content line)) result out.old at out.new }
+    requires { at + line_room ≤ length out.old }
+    ensures { Takes (line_step held (content line)) result out.old at out.new }
 {
     match read_partial(line) {
         Line::Prices(bar) => feed_bar(held, bar, out, at),
@@ -116,10 +116,10 @@ fn step(held: BarBox, line: Partial, out: &mut [u8], at: usize) -> Stepped
 
 // Bytes up to the end of a line, or all of them if none ends there.
 fn advance(st: Session, chunk: &[u8], out: &mut [u8], at: usize) -> Absorbed
-    requires { (st.stopped ≡ false) × (1 ≤ length chunk.now) × (at + lineRoom ≤ length out.old) }
-    ensures used { (1 ≤ result.used) × (result.used ≤ length chunk.now) × (usedOf (length out.old - at) (state_of st) (take result.used chunk.now) ≡ result.used) }
-    ensures session { result.session ≡ sessionOf (stateAfter (state_of st) (take result.used chunk.now)) }
-    ensures printed { (result.written ≤ at + lineRoom) × Written out.old at (prints (state_of st) (take result.used chunk.now)) out.new result.written }
+    requires { (st.stopped ≡ false) × (1 ≤ length chunk.now) × (at + line_room ≤ length out.old) }
+    ensures used { (1 ≤ result.used) × (result.used ≤ length chunk.now) × (used_of (length out.old - at) (state_of st) (take result.used chunk.now) ≡ result.used) }
+    ensures session { result.session ≡ session_of (state_after (state_of st) (take result.used chunk.now)) }
+    ensures printed { (result.written ≤ at + line_room) × Written out.old at (prints (state_of st) (take result.used chunk.now)) out.new result.written }
 {
     let k = lines::piece_end(LINE_FEED, chunk);
     let begun = st.line;
@@ -153,9 +153,9 @@ fn advance(st: Session, chunk: &[u8], out: &mut [u8], at: usize) -> Absorbed
 // Bytes of input, as long as no line is refused and the buffer has room for what a line may print, 1,332 bytes. Where some bytes are
 // lent, no line was refused before and the buffer has that room, at least one byte is used (SessionLaws.used-some).
 pub fn absorb(st: Session, chunk: &[u8], out: &mut [u8]) -> Absorbed
-    ensures answer { result ≡ absorbedOf st chunk.now (length out.old) }
+    ensures answer { result ≡ absorbed_of st chunk.now (length out.old) }
     ensures within { result.written ≤ length out.old }
-    ensures buffer { out.new ≡ overlay out.old 0 (prints (state_of st) (takenBytes (length out.old) (state_of st) chunk.now)) }
+    ensures buffer { out.new ≡ overlay out.old 0 (prints (state_of st) (taken_bytes (length out.old) (state_of st) chunk.now)) }
 {
     let room = least(ROOM, out.len());
     let limit = out.len() - room;
@@ -185,7 +185,7 @@ pub fn absorb(st: Session, chunk: &[u8], out: &mut [u8]) -> Absorbed
 
 // The end of the input, where a line that has begun ends. A buffer without the room that a line may need stays as it is.
 pub fn end(st: Session, out: &mut [u8]) -> usize
-    ensures printed { Written out.old 0 (lineIn lineRoom (length out.old) (endPrints (state_of st))) out.new result }
+    ensures printed { Written out.old 0 (line_in line_room (length out.old) (end_prints (state_of st))) out.new result }
     ensures within { result ≤ length out.old }
 {
     let line = st.line;

@@ -11,7 +11,7 @@ use borrow.Author.Tests.{leb-true, eqb-true, eq-eqb}
 use lib.Dec.{eqb, leb}
 use lib.ListN.{length, get_or, take, drop, replicate, length-append, length-replicate, get_or-eq_default}
 use lib.Seq.{drop-cons, take_at}
-use Rattle.label_texts.specs.LabelText.{labelTexts, bytes_of, mostBytes, text_of, same, place_in}
+use Rattle.label_texts.specs.LabelText.{texts_of_labels, bytes_of, most_bytes, text_of, same, place_in}
 use Rattle.rule_types.proofs.ListLaws.{both}
 
 -- ---- the same bytes
@@ -64,18 +64,18 @@ every-at test i (l ∷ ls) (suc k) e h =
     let next : i + suc k ≡ suc i + k = omega arith in
     rw next (every-at test (suc i) ls k (both (test i l) (every test (suc i) ls) e).1 (le_of_suc-le-suc h))
 
-pub no_bytes : (code : ℕ) → length labelTexts ≤ code → bytes_of code ≡ []
-no_bytes code h = get_or-eq_default labelTexts [] h
+pub no_bytes : (code : ℕ) → length texts_of_labels ≤ code → bytes_of code ≡ []
+no_bytes code h = get_or-eq_default texts_of_labels [] h
 
 -- no label has more than 15 bytes
 abbrev is-short : ℕ → List ℕ → Bool
-is-short i l = leb (length l) mostBytes
+is-short i l = leb (length l) most_bytes
 
-pub short : (code : ℕ) → length (bytes_of code) ≤ mostBytes
+pub short : (code : ℕ) → length (bytes_of code) ≤ most_bytes
 short code =
-    elim (dec_le (length labelTexts) code) [
+    elim (dec_le (length texts_of_labels) code) [
       | yes h ↦ rw (no_bytes code h) (omega arith)
-      | no g ↦ leb-true (length (bytes_of code)) mostBytes (every-at is-short 0 labelTexts code refl (omega arith))
+      | no g ↦ leb-true (length (bytes_of code)) most_bytes (every-at is-short 0 texts_of_labels code refl (omega arith))
     ]
 
 -- ---- what a code's text holds
@@ -83,10 +83,10 @@ pub text-len : (code : ℕ) → (text_of code).len ≡ length (bytes_of code)
 unfolding text_of
 text-len code = refl
 
-pub text-length : (code : ℕ) → length (text_of code).bytes ≡ mostBytes
+pub text-length : (code : ℕ) → length (text_of code).bytes ≡ most_bytes
 unfolding text_of
 text-length code = simp (length-append, length-replicate) (omega (arith, short code))
 
 pub text-bytes : (code : ℕ) → take (text_of code).len (text_of code).bytes ≡ bytes_of code
 unfolding text_of
-text-bytes code = take_at (bytes_of code) (replicate (mostBytes - length (bytes_of code)) 0) (length (bytes_of code)) refl
+text-bytes code = take_at (bytes_of code) (replicate (most_bytes - length (bytes_of code)) 0) (length (bytes_of code)) refl

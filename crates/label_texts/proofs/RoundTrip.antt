@@ -9,19 +9,19 @@ use borrow.Author.Tests.{eqb-true, le-leb}
 use lib.Dec.{eqb}
 use lib.ListN.{length, get_or}
 use Rattle.rule_types.specs.Number.{labels}
-use Rattle.label_texts.specs.LabelText.{labelTexts, bytes_of, mostBytes, text_of, same, place_in, codeOfBytes, codeOfText}
+use Rattle.label_texts.specs.LabelText.{texts_of_labels, bytes_of, most_bytes, text_of, same, place_in, code_of_bytes, code_of_text}
 use Rattle.label_texts.proofs.LabelLaws.{same-eq, every, every-at, no_bytes, short, text-len, text-bytes}
 
 -- each label stands at its place, at no place before
 abbrev in_place : ℕ → List ℕ → Bool
-in_place i l = eqb (place_in labelTexts l) i
+in_place i l = eqb (place_in texts_of_labels l) i
 
-all-in-place : every in_place 0 labelTexts ≡ true
+all-in-place : every in_place 0 texts_of_labels ≡ true
 unfolding place_in same
 all-in-place = refl
 
-code-of-label : (code : ℕ) → code < length labelTexts → codeOfBytes (bytes_of code) ≡ code
-code-of-label code h = omega (arith, eqb-true (codeOfBytes (bytes_of code)) (0 + code) (every-at in_place 0 labelTexts code all-in-place h))
+code-of-label : (code : ℕ) → code < length texts_of_labels → code_of_bytes (bytes_of code) ≡ code
+code-of-label code h = omega (arith, eqb-true (code_of_bytes (bytes_of code)) (0 + code) (every-at in_place 0 texts_of_labels code all-in-place h))
 
 -- a place in a list of labels is at most the list's length; below it, the bytes stand there
 module _ (s : List ℕ) where
@@ -48,25 +48,25 @@ module _ (s : List ℕ) where
 
 pub record RoundTrip : Type 0 where
   -- from a code and back
-  pub code-of-text : (code : ℕ) → code < labels → codeOfText (text_of code) ≡ code
-  pub code-of-bytes : (code : ℕ) → code < labels → codeOfBytes (bytes_of code) ≡ code
+  pub code-of-text : (code : ℕ) → code < labels → code_of_text (text_of code) ≡ code
+  pub code-of-bytes : (code : ℕ) → code < labels → code_of_bytes (bytes_of code) ≡ code
   -- from bytes and back
-  pub bytes-of-code : (s : List ℕ) → codeOfBytes s < labels → bytes_of (codeOfBytes s) ≡ s
+  pub bytes-of-code : (s : List ℕ) → code_of_bytes s < labels → bytes_of (code_of_bytes s) ≡ s
   -- what texts and codes there are
-  pub text-short : (code : ℕ) → (text_of code).len ≤ mostBytes
+  pub text-short : (code : ℕ) → (text_of code).len ≤ most_bytes
   pub text-none : (code : ℕ) → labels ≤ code → bytes_of code ≡ []
-  pub code-most : (s : List ℕ) → codeOfBytes s ≤ labels
+  pub code-most : (s : List ℕ) → code_of_bytes s ≤ labels
 
 pub round_trip : RoundTrip
-unfolding codeOfText
+unfolding code_of_text
 round_trip =
     record {
       code-of-text = λ code h.
-          let fits : (text_of code).len ≤ mostBytes = rw text-len (short code) in
+          let fits : (text_of code).len ≤ most_bytes = rw text-len (short code) in
           rw (le-leb _ _ fits, text-bytes) (code-of-label code h);
       code-of-bytes = code-of-label;
-      bytes-of-code = λ s h. found s labelTexts h;
+      bytes-of-code = λ s h. found s texts_of_labels h;
       text-short = λ code. rw text-len (short code);
       text-none = no_bytes;
-      code-most = λ s. place-most s labelTexts;
+      code-most = λ s. place-most s texts_of_labels;
     }

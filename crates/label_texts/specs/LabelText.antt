@@ -4,8 +4,8 @@ use Rattle.rule_types.specs.Number.{labels}
 use Rattle.label_texts.specs.declared.label_text.Text.{Text}
 
 -- the bytes of each label, in the order of the codes
-abbrev pub labelTexts : List (List ℕ)
-labelTexts =
+abbrev pub texts_of_labels : List (List ℕ)
+texts_of_labels =
     (229 ∷ 133 ∷ 182 ∷ 228 ∷ 187 ∷ 150 ∷ []) ∷  -- 0 其他
     (228 ∷ 187 ∷ 187 ∷ 230 ∷ 132 ∷ 143 ∷ []) ∷  -- 1 任意
     (230 ∷ 187 ∷ 161 ∷ 232 ∷ 182 ∷ 179 ∷ []) ∷  -- 2 满足
@@ -48,14 +48,14 @@ labelTexts =
 
 -- the bytes of a code; a code above 37 has no bytes
 abbrev pub bytes_of : ℕ → List ℕ
-bytes_of code = get_or labelTexts code []
+bytes_of code = get_or texts_of_labels code []
 
 -- they come by value with their count, at most 15, filled up with zeros
-abbrev pub mostBytes : ℕ
-mostBytes = 15
+abbrev pub most_bytes : ℕ
+most_bytes = 15
 
 unfoldable pub text_of : ℕ → Text
-text_of code = let s = bytes_of code in record { bytes = s ++ replicate (mostBytes - length s) 0; len = length s }
+text_of code = let s = bytes_of code in record { bytes = s ++ replicate (most_bytes - length s) 0; len = length s }
 
 -- whether two lists of bytes are the same
 unfoldable pub same : List ℕ → List ℕ → Bool
@@ -70,9 +70,9 @@ place_in [] s = 0
 place_in (l ∷ ls) s = cond (same l s) 0 (suc (place_in ls s))
 
 -- the code of bytes; bytes that are no label have code 38
-abbrev pub codeOfBytes : List ℕ → ℕ
-codeOfBytes s = place_in labelTexts s
+abbrev pub code_of_bytes : List ℕ → ℕ
+code_of_bytes s = place_in texts_of_labels s
 
 -- the code of bytes that come by value: of as many as their count says, which must be at most 15
-unfoldable pub codeOfText : Text → ℕ
-codeOfText t = cond (leb t.len mostBytes) (codeOfBytes (take t.len t.bytes)) labels
+unfoldable pub code_of_text : Text → ℕ
+code_of_text t = cond (leb t.len most_bytes) (code_of_bytes (take t.len t.bytes)) labels

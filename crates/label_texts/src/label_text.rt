@@ -1,7 +1,7 @@
 // Label text: a code's exact UTF-8 bytes, and the code of given bytes.
 ghost use Rattle.std.specs.Prelude.{◌≡◌, ◌<◌};
 ghost use Rattle.rule_types.specs.Number.{labels};
-ghost use Rattle.label_texts.specs.LabelText.{bytes_of, text_of, same, codeOfBytes, codeOfText};
+ghost use Rattle.label_texts.specs.LabelText.{bytes_of, text_of, same, code_of_bytes, code_of_text};
 
 use rule_types::counts::LABELS;
 
@@ -240,7 +240,7 @@ fn is_label(code: u8, s: &[u8]) -> bool
 
 // The code of bytes; 38 for bytes that are no label.
 pub fn code_of_bytes(s: &[u8]) -> u8
-    ensures { result ≡ codeOfBytes s.now }
+    ensures { result ≡ code_of_bytes s.now }
 {
     let mut code = 0u8;
     while code < NO_LABEL {
@@ -254,7 +254,7 @@ pub fn code_of_bytes(s: &[u8]) -> u8
 
 // The code of a text by value; 38 for one that is no label or counts more bytes than it has.
 pub fn code_of_text(t: Text) -> u8
-    ensures { result ≡ codeOfText t }
+    ensures { result ≡ code_of_text t }
 {
     let bytes = t.bytes;
     let n = t.len as usize;

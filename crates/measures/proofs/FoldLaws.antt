@@ -5,21 +5,21 @@ use mathlib.Core.List.{foldl, foldr, foldl-append}
 use lib.Ieee.{Float, nan, inf, fin, lt, is_nan}
 use Rattle.prices.specs.declared.bars.Bar.{Bar}
 use Rattle.measures.specs.declared.folds.Column.{Column}
-use Rattle.prices.specs.Price.{max_of, minOf}
-use Rattle.prices.specs.Bar.{noBar}
-use Rattle.measures.specs.Fold.{priceOf, columnOf, highestOf, lowestOf, everyOf}
+use Rattle.prices.specs.Price.{max_of, min_of}
+use Rattle.prices.specs.Bar.{no_bar}
+use Rattle.measures.specs.Fold.{price_of, column_of, highest_of, lowest_of, every_of}
 use Rattle.prices.proofs.Order.{lt-nan, is-nan, max_assoc, min_assoc, max-known, min-known, max-both, min-both}
 use Rattle.windows.proofs.RunLaws.{from-bar, past-bars}
 
 -- one turn: what is left to fold from the i-th bar on, its price taken in; and the end, where nothing is left
 module _ (f : Float → Float → Float) (c : Column) (bars : List Bar) (i : ℕ) where
   pub turn : (x : Float) → i < length bars
-      → foldl f (f x (priceOf c (get_or bars i noBar))) (columnOf c (drop (i + 1) bars)) ≡ foldl f x (columnOf c (drop i bars))
-  unfolding columnOf
+      → foldl f (f x (price_of c (get_or bars i no_bar))) (column_of c (drop (i + 1) bars)) ≡ foldl f x (column_of c (drop i bars))
+  unfolding column_of
   turn x h = rw (from-bar bars i h)
 
-  pub turned : (x : Float) → length bars ≤ i → foldl f x (columnOf c (drop i bars)) ≡ x
-  unfolding columnOf
+  pub turned : (x : Float) → length bars ≤ i → foldl f x (column_of c (drop i bars)) ≡ x
+  unfolding column_of
   turned x h = rw (past-bars bars i h)
 
 -- from a value that is no NaN one comparison is enough
@@ -27,8 +27,8 @@ pub max-of-known : (a b : Float) → is_nan a ≡ false → cond (lt a b) b a �
 unfolding max_of
 max-of-known a b e = simp e
 
-pub min-of-known : (a b : Float) → is_nan a ≡ false → cond (lt b a) b a ≡ minOf a b
-unfolding minOf
+pub min-of-known : (a b : Float) → is_nan a ≡ false → cond (lt b a) b a ≡ min_of a b
+unfolding min_of
 min-of-known a b e = simp e
 
 -- ---- 02, P2: an extreme that runs along. Each price that enters is older than those before it, and is the first argument: so the extreme
@@ -76,24 +76,24 @@ module _ (less : Float → Float → Bool) (f : Float → Float → Float) (star
   -- where there is a price, every one is less than z exactly if none is NaN and the extreme is less than z
   module _ (z : Float) where
     abbrev every-less : List Float → Bool
-    every-less xs = everyOf (λ x. less x z) xs
+    every-less xs = every_of (λ x. less x z) xs
 
     abbrev every-known : List Float → Bool
-    every-known xs = everyOf (λ x. not (is_nan x)) xs
+    every-known xs = every_of (λ x. not (is_nan x)) xs
 
     abbrev Told : List Float → Type 0
     Told xs = every-less xs ≡ (every-known xs && less (foldl f start xs) z)
 
     of_nan : (x : Float) (xs : List Float) → is_nan x ≡ true → Told (x ∷ xs)
-    unfolding everyOf
+    unfolding every_of
     of_nan x xs h = let none : less x z ≡ false = rw (is-nan x h) (e.nan_left z) in simp (h, none)
 
     of_one : (x : Float) → is_nan x ≡ false → Told (x ∷ [])
-    unfolding everyOf
+    unfolding every_of
     of_one x h = simp (h, e.begins x, e.alone x h, and-true)
 
     of-more : (x : Float) (xs : List Float) → is_nan x ≡ false → Told xs → Told (x ∷ xs)
-    unfolding everyOf
+    unfolding every_of
     of-more x xs h rest =
         rw (h, grows x xs, e.both x (foldl f start xs) z h (known-fold xs), rest)
         (exchange (less x z) (every-known xs) (less (foldl f start xs) z))
@@ -118,8 +118,8 @@ max-start (inf true) = refl
 max-start (inf false) = refl
 max-start (fin s m e) = refl
 
-min-start : (x : Float) → minOf (inf false) x ≡ minOf x (inf false)
-unfolding minOf is_nan lt
+min-start : (x : Float) → min_of (inf false) x ≡ min_of x (inf false)
+unfolding min_of is_nan lt
 min-start nan = refl
 min-start (inf true) = refl
 min-start (inf false) = refl
@@ -132,8 +132,8 @@ max-alone (inf true) h = refl
 max-alone (inf false) h = refl
 max-alone (fin s m e) h = refl
 
-min-alone : (x : Float) → is_nan x ≡ false → minOf x (inf false) ≡ x
-unfolding minOf is_nan lt
+min-alone : (x : Float) → is_nan x ≡ false → min_of x (inf false) ≡ x
+unfolding min_of is_nan lt
 min-alone nan h = absurd (true≢false h)
 min-alone (inf true) h = refl
 min-alone (inf false) h = refl
@@ -151,7 +151,7 @@ highest-extreme = record {
   nan_left = λ z. refl;
 }
 
-lowest-extreme : Extreme (λ x y. lt y x) minOf (inf false)
+lowest-extreme : Extreme (λ x y. lt y x) min_of (inf false)
 unfolding is_nan
 lowest-extreme = record {
   assoc = min_assoc;
@@ -163,42 +163,42 @@ lowest-extreme = record {
   nan_left = lt-nan;
 }
 
-pub highest-grows : (x : Float) (xs : List Float) → highestOf (x ∷ xs) ≡ max_of x (highestOf xs)
-unfolding highestOf
+pub highest-grows : (x : Float) (xs : List Float) → highest_of (x ∷ xs) ≡ max_of x (highest_of xs)
+unfolding highest_of
 highest-grows = grows lt max_of (inf true) highest-extreme
 
-pub lowest-grows : (x : Float) (xs : List Float) → lowestOf (x ∷ xs) ≡ minOf x (lowestOf xs)
-unfolding lowestOf
-lowest-grows = grows (λ x y. lt y x) minOf (inf false) lowest-extreme
+pub lowest-grows : (x : Float) (xs : List Float) → lowest_of (x ∷ xs) ≡ min_of x (lowest_of xs)
+unfolding lowest_of
+lowest-grows = grows (λ x y. lt y x) min_of (inf false) lowest-extreme
 
-pub highest-runs-along : (xs : List Float) → foldr max_of (inf true) xs ≡ highestOf xs
-unfolding highestOf
+pub highest-runs-along : (xs : List Float) → foldr max_of (inf true) xs ≡ highest_of xs
+unfolding highest_of
 highest-runs-along = runs-along lt max_of (inf true) highest-extreme
 
-pub lowest-runs-along : (xs : List Float) → foldr minOf (inf false) xs ≡ lowestOf xs
-unfolding lowestOf
-lowest-runs-along = runs-along (λ x y. lt y x) minOf (inf false) lowest-extreme
+pub lowest-runs-along : (xs : List Float) → foldr min_of (inf false) xs ≡ lowest_of xs
+unfolding lowest_of
+lowest-runs-along = runs-along (λ x y. lt y x) min_of (inf false) lowest-extreme
 
-pub known-highest : (xs : List Float) → is_nan (highestOf xs) ≡ false
-unfolding highestOf
+pub known-highest : (xs : List Float) → is_nan (highest_of xs) ≡ false
+unfolding highest_of
 known-highest = known-fold lt max_of (inf true) highest-extreme
 
-pub known-lowest : (xs : List Float) → is_nan (lowestOf xs) ≡ false
-unfolding lowestOf
-known-lowest = known-fold (λ x y. lt y x) minOf (inf false) lowest-extreme
+pub known-lowest : (xs : List Float) → is_nan (lowest_of xs) ≡ false
+unfolding lowest_of
+known-lowest = known-fold (λ x y. lt y x) min_of (inf false) lowest-extreme
 
-pub highest-joins : (xs ys : List Float) → highestOf (xs ++ ys) ≡ max_of (highestOf xs) (highestOf ys)
-unfolding highestOf
+pub highest-joins : (xs ys : List Float) → highest_of (xs ++ ys) ≡ max_of (highest_of xs) (highest_of ys)
+unfolding highest_of
 highest-joins = joins lt max_of (inf true) highest-extreme
 
-pub lowest-joins : (xs ys : List Float) → lowestOf (xs ++ ys) ≡ minOf (lowestOf xs) (lowestOf ys)
-unfolding lowestOf
-lowest-joins = joins (λ x y. lt y x) minOf (inf false) lowest-extreme
+pub lowest-joins : (xs ys : List Float) → lowest_of (xs ++ ys) ≡ min_of (lowest_of xs) (lowest_of ys)
+unfolding lowest_of
+lowest-joins = joins (λ x y. lt y x) min_of (inf false) lowest-extreme
 
-pub every-below : (z x : Float) (xs : List Float) → everyOf (λ y. lt y z) (x ∷ xs) ≡ (everyOf (λ y. not (is_nan y)) (x ∷ xs) && lt (highestOf (x ∷ xs)) z)
-unfolding highestOf
+pub every-below : (z x : Float) (xs : List Float) → every_of (λ y. lt y z) (x ∷ xs) ≡ (every_of (λ y. not (is_nan y)) (x ∷ xs) && lt (highest_of (x ∷ xs)) z)
+unfolding highest_of
 every-below = told lt max_of (inf true) highest-extreme
 
-pub every-above : (z x : Float) (xs : List Float) → everyOf (λ y. lt z y) (x ∷ xs) ≡ (everyOf (λ y. not (is_nan y)) (x ∷ xs) && lt z (lowestOf (x ∷ xs)))
-unfolding lowestOf
-every-above = told (λ x y. lt y x) minOf (inf false) lowest-extreme
+pub every-above : (z x : Float) (xs : List Float) → every_of (λ y. lt z y) (x ∷ xs) ≡ (every_of (λ y. not (is_nan y)) (x ∷ xs) && lt z (lowest_of (x ∷ xs)))
+unfolding lowest_of
+every-above = told (λ x y. lt y x) min_of (inf false) lowest-extreme

@@ -1,4 +1,4 @@
 -- Bars, passed on to those who see only the measures.
 pub use Rattle.prices.specs.declared.bars.Bar.{Bar}
-pub use Rattle.prices.specs.Bar.{barOf, noBar, barFrom, overlay}
-unfoldable pub use Rattle.prices.specs.Bar.{barsOf, pricesOf, putBar, body_of, upperOf, lowerOf, longShadow, dojiAbove, dojiOf}
+pub use Rattle.prices.specs.Bar.{bar_of, no_bar, bar_from, overlay}
+unfoldable pub use Rattle.prices.specs.Bar.{bars_of, prices_of, put_bar, body_of, upper_of, lower_of, long_shadow, doji_above, doji_of}

@@ -6,35 +6,35 @@ use Rattle.std.specs.Float.Ieee.{of_int, add, sub, mul, div, le}
 use Rattle.prices.specs.declared.bars.Bar.{Bar}
 use Rattle.measures.specs.declared.folds.{Column.Column, Fold.Fold, Fold.TheVariants.Highest, Fold.TheVariants.Lowest, Fold.TheVariants.Sum, Fold.TheVariants.Squares, Extremes.Extremes}
 use Rattle.measures.specs.declared.folds.Column.TheVariants.{Open, Close, High, Low}
-use Rattle.prices.specs.Price.{zero, aQuarter, max_of, minOf, squareOf}
+use Rattle.prices.specs.Price.{zero, a_quarter, max_of, min_of, square_of}
 
 -- the prices of a column of a window
-abbrev pub priceOf : Column → Bar → Float
-priceOf Open b = b.«open»
-priceOf Close b = b.close
-priceOf High b = b.high
-priceOf Low b = b.low
+abbrev pub price_of : Column → Bar → Float
+price_of Open b = b.«open»
+price_of Close b = b.close
+price_of High b = b.high
+price_of Low b = b.low
 
-unfoldable pub columnOf : Column → List Bar → List Float
-columnOf c bars = map (priceOf c) bars
+unfoldable pub column_of : Column → List Bar → List Float
+column_of c bars = map (price_of c) bars
 
 -- ---- folds
 
-unfoldable pub highestOf : List Float → Float
-highestOf xs = foldl max_of (inf true) xs
+unfoldable pub highest_of : List Float → Float
+highest_of xs = foldl max_of (inf true) xs
 
-unfoldable pub lowestOf : List Float → Float
-lowestOf xs = foldl minOf (inf false) xs
+unfoldable pub lowest_of : List Float → Float
+lowest_of xs = foldl min_of (inf false) xs
 
 unfoldable pub sum_of : List Float → Float
 sum_of xs = foldl (add binary64) zero xs
 
 -- what one step of the code's folds makes of what it has and the next price
-abbrev pub foldStep : Fold → Float → Float → Float
-foldStep Highest x y = max_of x y
-foldStep Lowest x y = minOf x y
-foldStep Sum x y = add binary64 x y
-foldStep (Squares mean) x y = add binary64 x (squareOf (sub binary64 y mean))
+abbrev pub fold_step : Fold → Float → Float → Float
+fold_step Highest x y = max_of x y
+fold_step Lowest x y = min_of x y
+fold_step Sum x y = add binary64 x y
+fold_step (Squares mean) x y = add binary64 x (square_of (sub binary64 y mean))
 
 -- ---- variance: mean of squares about the mean, sums from the oldest
 
@@ -42,32 +42,32 @@ foldStep (Squares mean) x y = add binary64 x (squareOf (sub binary64 y mean))
 unfoldable pub size_of : List Float → Float
 size_of xs = of_int binary64 (pos (length xs))
 
-unfoldable pub meanOf : List Float → Float
-meanOf xs = div binary64 (sum_of xs) (size_of xs)
+unfoldable pub mean_of : List Float → Float
+mean_of xs = div binary64 (sum_of xs) (size_of xs)
 
-unfoldable pub varianceOf : List Float → Float
-varianceOf xs = div binary64 (sum_of (map (λ x. squareOf (sub binary64 x (meanOf xs))) xs)) (size_of xs)
+unfoldable pub variance_of : List Float → Float
+variance_of xs = div binary64 (sum_of (map (λ x. square_of (sub binary64 x (mean_of xs))) xs)) (size_of xs)
 
 -- ---- a test of every price
 
-unfoldable pub everyOf : (Float → Bool) → List Float → Bool
-everyOf t [] = true
-everyOf t (x ∷ xs) = t x && everyOf t xs
+unfoldable pub every_of : (Float → Bool) → List Float → Bool
+every_of t [] = true
+every_of t (x ∷ xs) = t x && every_of t xs
 
 -- ---- quarter
 
 -- Lmax the highest high, Lmin the lowest low
-unfoldable pub extremesOf : List Bar → Extremes
-extremesOf bars = record { highest = highestOf (columnOf High bars); lowest = lowestOf (columnOf Low bars) }
+unfoldable pub extremes_of : List Bar → Extremes
+extremes_of bars = record { highest = highest_of (column_of High bars); lowest = lowest_of (column_of Low bars) }
 
 -- 0.25 × gap, with gap = Lmax − Lmin
-abbrev pub quarterGap : Extremes → Float
-quarterGap e = mul binary64 aQuarter (sub binary64 e.highest e.lowest)
+abbrev pub quarter_gap : Extremes → Float
+quarter_gap e = mul binary64 a_quarter (sub binary64 e.highest e.lowest)
 
 -- low side: low ≤ Lmin + 0.25 × gap
-abbrev pub lowSide : Extremes → Bar → Bool
-lowSide e b = le b.low (add binary64 e.lowest (quarterGap e))
+abbrev pub low_side : Extremes → Bar → Bool
+low_side e b = le b.low (add binary64 e.lowest (quarter_gap e))
 
 -- high side: high ≥ Lmax − 0.25 × gap
-abbrev pub highSide : Extremes → Bar → Bool
-highSide e b = le (sub binary64 e.highest (quarterGap e)) b.high
+abbrev pub high_side : Extremes → Bar → Bool
+high_side e b = le (sub binary64 e.highest (quarter_gap e)) b.high

@@ -10,58 +10,58 @@ use native.Mathlib.Decide.{dec_le}
 use lib.ListN.{length, take}
 use lib.Ieee.{Float, inf, is_nan, lt}
 use lib.Seq.{take-length, get_or-take, length-take-le}
-use Rattle.measures.specs.Bar.{Bar, noBar}
+use Rattle.measures.specs.Bar.{Bar, no_bar}
 use Rattle.measures.specs.declared.folds.Column.TheVariants.{High, Low}
-use Rattle.measures.specs.Window.{up_to, newest, windowOf, backOf}
-use Rattle.measures.specs.Fold.{columnOf, highestOf, lowestOf, everyOf, extremesOf}
+use Rattle.measures.specs.Window.{up_to, newest, window_of, back_of}
+use Rattle.measures.specs.Fold.{column_of, highest_of, lowest_of, every_of, extremes_of}
 use Rattle.measures.proofs.FoldLaws.{highest-grows, lowest-grows, max-of-known, min-of-known}
 use Rattle.measures.proofs.Order.{max-stays-known, min-stays-known}
-use Rattle.measures.proofs.WindowLaws.{upTo-in, upTo-one, length-window, newest-more, newest-none, back-newest, window-reach, all-of-it}
+use Rattle.measures.proofs.WindowLaws.{up_to-in, up_to-one, length-window, newest-more, newest-none, back-newest, window-reach, all-of-it}
 use Rattle.middles.specs.Part.{first_of, last_of, inner_of}
-use Rattle.middles.specs.MiddleSteps.{middle_of, entered, grownBy, middleAt}
+use Rattle.middles.specs.MiddleSteps.{middle_of, entered, grown_by, middle_at}
 
 -- ---- the bars of the window of n bars
 
 module _ (w : List Bar) (n : ℕ) where
-  window-one : windowOf w 1 n ≡ newest n w
-  unfolding windowOf
-  window-one = simp (upTo-one (length w), take-length w)
+  window-one : window_of w 1 n ≡ newest n w
+  unfolding window_of
+  window-one = simp (up_to-one (length w), take-length w)
 
-  length-one : length (windowOf w 1 n) ≡ min n (length w)
-  length-one = length-window w 1 n ∙ rw (upTo-one (length w))
+  length-one : length (window_of w 1 n) ≡ min n (length w)
+  length-one = length-window w 1 n ∙ rw (up_to-one (length w))
 
-  pub last-at : 1 ≤ n → last_of (windowOf w 1 n) ≡ backOf w 1
+  pub last-at : 1 ≤ n → last_of (window_of w 1 n) ≡ back_of w 1
   unfolding last_of
   last-at some = rw window-one (back-newest n 1 w some)
 
-  same_back : (i j : ℕ) → min i (length w) ≡ min j (length w) → backOf w i ≡ backOf w j
-  unfolding backOf
+  same_back : (i j : ℕ) → min i (length w) ≡ min j (length w) → back_of w i ≡ back_of w j
+  unfolding back_of
   same_back i j e = rw e
 
-  pub first-at : first_of (windowOf w 1 n) ≡ backOf w n
+  pub first-at : first_of (window_of w 1 n) ≡ back_of w n
   unfolding first_of
   first-at =
       rw (length-one, window-one)
       (back-newest n (min n (length w)) w (omega arith) ∙ same_back (min n (length w)) n (omega arith))
 
   -- where there are as many bars, those between the ends are the n − 2 bars before the newest
-  inner-three : 3 ≤ n → n ≤ length w → inner_of (windowOf w 1 n) ≡ windowOf w 2 (n - 2)
+  inner-three : 3 ≤ n → n ≤ length w → inner_of (window_of w 1 n) ≡ window_of w 2 (n - 2)
   unfolding inner_of
   inner-three many enough =
       let e : min n (length w) ≡ n = omega arith in
       rw (length-one, e, window-one) (window-reach n w 2 (n - 2) (omega arith) (omega arith))
 
-window-none : (w : List Bar) (di : ℕ) → windowOf w di 0 ≡ []
-unfolding windowOf
+window-none : (w : List Bar) (di : ℕ) → window_of w di 0 ≡ []
+unfolding window_of
 window-none w di = newest-none (take (up_to (length w) di) w)
 
-inner-two : (w : List Bar) → inner_of (windowOf w 1 2) ≡ []
+inner-two : (w : List Bar) → inner_of (window_of w 1 2) ≡ []
 unfolding inner_of
 inner-two w =
     let e : min 2 (length w) - 2 ≡ 0 = omega arith in
-    rw (length-one w 2, e) (window-none (windowOf w 1 2) 2)
+    rw (length-one w 2, e) (window-none (window_of w 1 2) 2)
 
-inner-at : (w : List Bar) (n : ℕ) → 2 ≤ n → n ≤ length w → inner_of (windowOf w 1 n) ≡ windowOf w 2 (n - 2)
+inner-at : (w : List Bar) (n : ℕ) → 2 ≤ n → n ≤ length w → inner_of (window_of w 1 n) ≡ window_of w 2 (n - 2)
 inner-at w n some enough =
     elim (dec_le 3 n) [
       | yes many ↦ inner-three w n many enough
@@ -80,71 +80,71 @@ place-older len n some enough =
 
 module _ (w : List Bar) (n : ℕ) (some : 2 ≤ n) (enough : n < length w) where
   older : up_to (length w) 2 ≡ length w - 1
-  older = upTo-in (length w) 2 (omega arith) (omega arith) ∙ omega arith
+  older = up_to-in (length w) 2 (omega arith) (omega arith) ∙ omega arith
 
-  back-older : backOf (take (length w - 1) w) (n - 2 + 1) ≡ backOf w n
-  unfolding backOf
+  back-older : back_of (take (length w - 1) w) (n - 2 + 1) ≡ back_of w n
+  unfolding back_of
   back-older =
       rw (length-take-le (length w - 1) w (omega arith), place-older (length w) n some enough)
-      (get_or-take (length w - 1) w (length w - min n (length w)) noBar (omega arith))
+      (get_or-take (length w - 1) w (length w - min n (length w)) no_bar (omega arith))
 
-  before-newest : windowOf w 2 (n + 1 - 2) ≡ backOf w n ∷ windowOf w 2 (n - 2)
-  unfolding windowOf
+  before-newest : window_of w 2 (n + 1 - 2) ≡ back_of w n ∷ window_of w 2 (n - 2)
+  unfolding window_of
   before-newest =
       let e : n + 1 - 2 ≡ n - 2 + 1 = omega arith in
       let long : n - 2 < length (take (length w - 1) w) = rw (length-take-le (length w - 1) w (omega arith)) (omega arith) in
       rw (older, e, newest-more (take (length w - 1) w) (n - 2) long, back-older)
 
   -- the first bar of the window of n bars is the oldest between the ends of the next
-  inner-grows : inner_of (windowOf w 1 (n + 1)) ≡ backOf w n ∷ inner_of (windowOf w 1 n)
+  inner-grows : inner_of (window_of w 1 (n + 1)) ≡ back_of w n ∷ inner_of (window_of w 1 n)
   inner-grows = rw (inner-at w (n + 1) (omega arith) (omega arith), inner-at w n some (omega arith)) before-newest
 
 -- where there is no older bar, the next window is the same
-window-stays : (w : List Bar) (n : ℕ) → length w ≤ n → windowOf w 1 (n + 1) ≡ windowOf w 1 n
+window-stays : (w : List Bar) (n : ℕ) → length w ≤ n → window_of w 1 (n + 1) ≡ window_of w 1 n
 window-stays w n all = all-of-it w (n + 1) (omega arith) ∙ sym (all-of-it w n all)
 
 -- ---- the extremes
 
 pub middle-grows : (b : Bar) (mid : List Bar) → middle_of (b ∷ mid) ≡ entered b (middle_of mid)
-unfolding middle_of extremesOf entered columnOf everyOf
-middle-grows b mid = simp (highest-grows b.high (columnOf High mid), lowest-grows b.low (columnOf Low mid))
+unfolding middle_of extremes_of entered column_of every_of
+middle-grows b mid = simp (highest-grows b.high (column_of High mid), lowest-grows b.low (column_of Low mid))
 
-pub at-two : (w : List Bar) → middleAt w 2 ≡ middle_of []
-unfolding middleAt
+pub at-two : (w : List Bar) → middle_at w 2 ≡ middle_of []
+unfolding middle_at
 at-two w = rw (inner-two w)
 
-pub at_next : (w : List Bar) (n : ℕ) → 2 ≤ n → n < length w → middleAt w (n + 1) ≡ entered (backOf w n) (middleAt w n)
-unfolding middleAt
-at_next w n some enough = rw (inner-grows w n some enough) (middle-grows (backOf w n) (inner_of (windowOf w 1 n)))
+pub at_next : (w : List Bar) (n : ℕ) → 2 ≤ n → n < length w → middle_at w (n + 1) ≡ entered (back_of w n) (middle_at w n)
+unfolding middle_at
+at_next w n some enough = rw (inner-grows w n some enough) (middle-grows (back_of w n) (inner_of (window_of w 1 n)))
 
-pub at-end : (w : List Bar) (n : ℕ) → length w ≤ n → middleAt w (n + 1) ≡ middleAt w n
-unfolding middleAt
+pub at-end : (w : List Bar) (n : ℕ) → length w ≤ n → middle_at w (n + 1) ≡ middle_at w n
+unfolding middle_at
 at-end w n all = rw (window-stays w n all)
 
 -- so what runs along is the middle's at each size
-pub at-grown : (w : List Bar) (n : ℕ) → 2 ≤ n → grownBy w n (middleAt w n) ≡ middleAt w (n + 1)
-unfolding grownBy
+pub at-grown : (w : List Bar) (n : ℕ) → 2 ≤ n → grown_by w n (middle_at w n) ≡ middle_at w (n + 1)
+unfolding grown_by
 at-grown w n some = go (ltb n (length w)) refl
   where
-    go : (t : Bool) → ltb n (length w) ≡ t → cond t (entered (backOf w n) (middleAt w n)) (middleAt w n) ≡ middleAt w (n + 1)
+    go : (t : Bool) → ltb n (length w) ≡ t → cond t (entered (back_of w n) (middle_at w n)) (middle_at w n) ≡ middle_at w (n + 1)
     go true e = sym (at_next w n some (ltb-true n (length w) e))
     go false e = sym (at-end w n (ltb-false n (length w) e))
 
 -- ---- three bars from the oldest, by one comparison a price, since no extreme is NaN
 
-pub top-of-three : (x y z : Float) → let a = cond (lt (inf true) x) x (inf true) in let b = cond (lt a y) y a in cond (lt b z) z b ≡ highestOf (x ∷ y ∷ z ∷ [])
-unfolding highestOf is_nan
+pub top-of-three : (x y z : Float) → let a = cond (lt (inf true) x) x (inf true) in let b = cond (lt a y) y a in cond (lt b z) z b ≡ highest_of (x ∷ y ∷ z ∷ [])
+unfolding highest_of is_nan
 top-of-three x y z =
     let first = max-stays-known (inf true) x refl in
     rw (max-of-known (inf true) x refl, max-of-known _ y first, max-of-known _ z (max-stays-known _ y first))
 
-pub bottom-of-three : (x y z : Float) → let a = cond (lt x (inf false)) x (inf false) in let b = cond (lt y a) y a in cond (lt z b) z b ≡ lowestOf (x ∷ y ∷ z ∷ [])
-unfolding lowestOf is_nan
+pub bottom-of-three : (x y z : Float) → let a = cond (lt x (inf false)) x (inf false) in let b = cond (lt y a) y a in cond (lt z b) z b ≡ lowest_of (x ∷ y ∷ z ∷ [])
+unfolding lowest_of is_nan
 bottom-of-three x y z =
     let first = min-stays-known (inf false) x refl in
     rw (min-of-known (inf false) x refl, min-of-known _ y first, min-of-known _ z (min-stays-known _ y first))
 
-pub three-at : (w : List Bar) → 5 ≤ length w → middle_of (backOf w 4 ∷ backOf w 3 ∷ backOf w 2 ∷ []) ≡ middleAt w 5
+pub three-at : (w : List Bar) → 5 ≤ length w → middle_of (back_of w 4 ∷ back_of w 3 ∷ back_of w 2 ∷ []) ≡ middle_at w 5
 three-at w long =
     rw (at_next w 4 (omega arith) (omega arith), at_next w 3 (omega arith) (omega arith), at_next w 2 (omega arith) (omega arith), at-two w)
-    (rw (middle-grows (backOf w 4) (backOf w 3 ∷ backOf w 2 ∷ []), middle-grows (backOf w 3) (backOf w 2 ∷ []), middle-grows (backOf w 2) []))
+    (rw (middle-grows (back_of w 4) (back_of w 3 ∷ back_of w 2 ∷ []), middle-grows (back_of w 3) (back_of w 2 ∷ []), middle-grows (back_of w 2) []))

@@ -1,8 +1,8 @@
 // The middle of a window, the bars between its first and its last: their extremes run along as the window grows. All is proved, nothing is
 // assumed, and no public function has a `requires`: each contract is an equation with a definition of specs/, for every input.
 ghost use Rattle.std.specs.Prelude.{◌≡◌, [], ◌∷◌};
-ghost use Rattle.measures.specs.Bar.{barsOf};
-ghost use Rattle.middles.specs.MiddleSteps.{middle_of, entered, grownBy, middleAt};
+ghost use Rattle.measures.specs.Bar.{bars_of};
+ghost use Rattle.middles.specs.MiddleSteps.{middle_of, entered, grown_by, middle_at};
 
 use measures::Bar;
 
@@ -40,7 +40,7 @@ fn enter(m: Middle, b: Bar) -> Middle
 
 // The middle of the window of one bar more than n, whose first bar enters; where there is no older bar, the window stays as it is.
 pub fn grow(m: Middle, w: &[f64], n: usize) -> Middle
-    ensures { result ≡ grownBy (barsOf w.now) n m }
+    ensures { result ≡ grown_by (bars_of w.now) n m }
 {
     if n < measures::count(w) {
         enter(m, measures::back(w, n))
@@ -71,7 +71,7 @@ fn middle_of_three(old: Bar, between: Bar, new: Bar) -> Middle
 
 // The middle of the first window that is tried. Of fewer than five bars those between the ends enter one by one.
 pub fn first_middle(w: &[f64]) -> Middle
-    ensures { result ≡ middleAt (barsOf w.now) 5 }
+    ensures { result ≡ middle_at (bars_of w.now) 5 }
 {
     if measures::count(w) < 5 {
         let none = no_middle();

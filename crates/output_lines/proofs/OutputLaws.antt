@@ -12,9 +12,9 @@ use Rattle.measures.specs.Bar.{overlay}
 use Rattle.measures.proofs.Overlay.{overlay-none, overlay-more}
 use Rattle.label_texts.specs.LabelText.{bytes_of}
 use Rattle.input_lines.specs.Lines.{comma}
-use Rattle.input_lines.specs.Lines.{lineFeed}
+use Rattle.input_lines.specs.Lines.{line_feed}
 use Rattle.label_texts.proofs.LabelLaws.{short}
-use Rattle.output_lines.specs.Output.{numeral, field, row_line, pairLine, row_lines, longestRow, longestCount, countLine, Written, Printed}
+use Rattle.output_lines.specs.Output.{numeral, field, row_line, pair_line, row_lines, longest_row, longest_count, count_line, Written, Printed}
 use Rattle.output_lines.proofs.NumeralLaws.{numeral-short}
 
 -- ---- bytes written behind bytes
@@ -49,39 +49,39 @@ label-most code end = rw (length-append (bytes_of code) (end ∷ [])) (omega (ar
 joined : (a b c d : List ℕ) → length (a ++ b ++ c ++ d) ≡ length a + length b + length c + length d
 joined a b c d = rw (length-append (a ++ b ++ c) d, length-append (a ++ b) c, length-append a b)
 
-row-most : (ordinal k v1 v2 : ℕ) → length (row_line ordinal k v1 v2) ≤ longestRow
+row-most : (ordinal k v1 v2 : ℕ) → length (row_line ordinal k v1 v2) ≤ longest_row
 unfolding row_line
 row-most ordinal k v1 v2 =
     let a = field (numeral ordinal) comma in
     let b = field (numeral k) comma in
     let c = field (bytes_of v1) comma in
-    let d = field (bytes_of v2) lineFeed in
-    omega (arith, joined a b c d, number-most ordinal comma, number-most k comma, label-most v1 comma, label-most v2 lineFeed)
+    let d = field (bytes_of v2) line_feed in
+    omega (arith, joined a b c d, number-most ordinal comma, number-most k comma, label-most v1 comma, label-most v2 line_feed)
 
-pub pair-most : (ordinal k v1 v2 : ℕ) → length (pairLine ordinal k v1 v2) ≤ longestRow
+pub pair-most : (ordinal k v1 v2 : ℕ) → length (pair_line ordinal k v1 v2) ≤ longest_row
 pair-most ordinal k v1 v2 = go (eqb v1 0)
   where
-    go : (t : Bool) → length (cond t [] (row_line ordinal k v1 v2)) ≤ longestRow
+    go : (t : Bool) → length (cond t [] (row_line ordinal k v1 v2)) ≤ longest_row
     go true = omega arith
     go false = row-most ordinal k v1 v2
 
-pub count_most : (k code count : ℕ) → length (countLine k code count) ≤ longestCount
-unfolding countLine
+pub count_most : (k code count : ℕ) → length (count_line k code count) ≤ longest_count
+unfolding count_line
 count_most k code count =
     let a = field (numeral k) comma in
     let b = field (bytes_of code) comma in
-    let c = field (numeral count) lineFeed in
+    let c = field (numeral count) line_feed in
     let all : length (a ++ b ++ c) ≡ length a + length b + length c = rw (length-append (a ++ b) c, length-append a b) in
-    omega (arith, all, number-most k comma, label-most code comma, number-most count lineFeed)
+    omega (arith, all, number-most k comma, label-most code comma, number-most count line_feed)
 
 -- ---- the lines of a sheet
 
-pub rows-most : (ordinal k : ℕ) (codes : List ℕ) → 2 * length (row_lines ordinal k codes) ≤ longestRow * length codes
+pub rows-most : (ordinal k : ℕ) (codes : List ℕ) → 2 * length (row_lines ordinal k codes) ≤ longest_row * length codes
 unfolding row_lines
 rows-most ordinal k [] = omega arith
 rows-most ordinal k (v1 ∷ []) = omega arith
 rows-most ordinal k (v1 ∷ v2 ∷ codes) =
-    rw (length-append (pairLine ordinal k v1 v2) (row_lines ordinal (k + 1) codes)) (omega (arith, pair-most ordinal k v1 v2, rows-most ordinal (k + 1) codes))
+    rw (length-append (pair_line ordinal k v1 v2) (row_lines ordinal (k + 1) codes)) (omega (arith, pair-most ordinal k v1 v2, rows-most ordinal (k + 1) codes))
 
 module _ (ordinal k : ℕ) (sheet : List ℕ) where
   pub rows_end : length sheet ≤ 2 * k → row_lines ordinal k (drop (2 * k) sheet) ≡ []
@@ -90,7 +90,7 @@ module _ (ordinal k : ℕ) (sheet : List ℕ) where
 
   pub rows_next : 2 * k + 1 < length sheet
       → row_lines ordinal k (drop (2 * k) sheet)
-      ≡ pairLine ordinal k (get_or sheet (2 * k) 0) (get_or sheet (2 * k + 1) 0) ++ row_lines ordinal (k + 1) (drop (2 * (k + 1)) sheet)
+      ≡ pair_line ordinal k (get_or sheet (2 * k) 0) (get_or sheet (2 * k + 1) 0) ++ row_lines ordinal (k + 1) (drop (2 * (k + 1)) sheet)
   unfolding row_lines
   rows_next h =
       let second : suc (2 * k) ≡ 2 * k + 1 = omega arith in

@@ -5,21 +5,21 @@ use Rattle.measures.specs.Bar.{overlay}
 use Rattle.answers.specs.declared.refusals.Refusal.{Refusal}
 use Rattle.answers.specs.declared.refusals.Refusal.TheVariants as refusal
 use Rattle.recognisers.specs.Number.{recognisers}
-use Rattle.recognisers.specs.Refusal.{refusalNumber}
+use Rattle.recognisers.specs.Refusal.{refusal_number}
 use Rattle.label_texts.specs.LabelText.{bytes_of}
-use Rattle.input_lines.specs.Lines.{lineFeed, comma}
+use Rattle.input_lines.specs.Lines.{line_feed, comma}
 use Rattle.output_lines.specs.declared.output.Stop.{Stop, TheVariants.Going, TheVariants.By, TheVariants.Price}
 
 -- ---- lines
 
 -- how many decimal digits a number has, of which there are at most one more than the first argument
-unfoldable pub digitCount : ℕ → ℕ → ℕ
-digitCount zero n = 1
-digitCount (suc most) n = cond (ltb n 10) 1 (suc (digitCount most (n / 10)))
+unfoldable pub digit_count : ℕ → ℕ → ℕ
+digit_count zero n = 1
+digit_count (suc most) n = cond (ltb n 10) 1 (suc (digit_count most (n / 10)))
 
 -- a number below 2 to the power of 64 in decimal
 unfoldable pub numeral : ℕ → List ℕ
-numeral n = last_digits 10 (digitCount 19 n) n
+numeral n = last_digits 10 (digit_count 19 n) n
 
 -- bytes with the one that ends them
 abbrev pub field : List ℕ → ℕ → List ℕ
@@ -27,60 +27,60 @@ field s end = s ++ end ∷ []
 
 -- the bar's ordinal, recogniser, v1, v2
 unfoldable pub row_line : ℕ → ℕ → ℕ → ℕ → List ℕ
-row_line ordinal k v1 v2 = field (numeral ordinal) comma ++ field (numeral k) comma ++ field (bytes_of v1) comma ++ field (bytes_of v2) lineFeed
+row_line ordinal k v1 v2 = field (numeral ordinal) comma ++ field (numeral k) comma ++ field (bytes_of v1) comma ++ field (bytes_of v2) line_feed
 
 -- the line of a recogniser, if its v1 isn't 其他
-abbrev pub pairLine : ℕ → ℕ → ℕ → ℕ → List ℕ
-pairLine ordinal k v1 v2 = cond (eqb v1 0) [] (row_line ordinal k v1 v2)
+abbrev pub pair_line : ℕ → ℕ → ℕ → ℕ → List ℕ
+pair_line ordinal k v1 v2 = cond (eqb v1 0) [] (row_line ordinal k v1 v2)
 
 -- the lines of a bar whose sheet row has these codes, for the recognisers from k on
 unfoldable pub row_lines : ℕ → ℕ → List ℕ → List ℕ
 row_lines ordinal k [] = []
 row_lines ordinal k (v1 ∷ []) = []
-row_lines ordinal k (v1 ∷ v2 ∷ codes) = pairLine ordinal k v1 v2 ++ row_lines ordinal (k + 1) codes
+row_lines ordinal k (v1 ∷ v2 ∷ codes) = pair_line ordinal k v1 v2 ++ row_lines ordinal (k + 1) codes
 
 -- the most bytes of a row, of a count's line and of a refusal's
-abbrev pub longestRow : ℕ
-longestRow = 74
+abbrev pub longest_row : ℕ
+longest_row = 74
 
-abbrev pub longestCount : ℕ
-longestCount = 58
+abbrev pub longest_count : ℕ
+longest_count = 58
 
-abbrev pub longestRefusal : ℕ
-longestRefusal = 71
+abbrev pub longest_refusal : ℕ
+longest_refusal = 71
 
 -- the room for what a line may print: a row for each recogniser
-abbrev pub lineRoom : ℕ
-lineRoom = recognisers * longestRow
+abbrev pub line_room : ℕ
+line_room = recognisers * longest_row
 
 -- the bytes of the word refused
-abbrev pub refusedWord : List ℕ
-refusedWord = 114 ∷ 101 ∷ 102 ∷ 117 ∷ 115 ∷ 101 ∷ 100 ∷ []
+abbrev pub refused_word : List ℕ
+refused_word = 114 ∷ 101 ∷ 102 ∷ 117 ∷ 115 ∷ 101 ∷ 100 ∷ []
 
 -- the word, the line's ordinal, the refusal, and the byte behind it
-unfoldable pub refusalPart : ℕ → Refusal → ℕ → List ℕ
-refusalPart ordinal r end = field refusedWord comma ++ field (numeral ordinal) comma ++ field (numeral (refusalNumber r)) end
+unfoldable pub refusal_part : ℕ → Refusal → ℕ → List ℕ
+refusal_part ordinal r end = field refused_word comma ++ field (numeral ordinal) comma ++ field (numeral (refusal_number r)) end
 
 -- whether no line was refused
-abbrev pub goesOn : Stop → Bool
-goesOn Going = true
-goesOn (By r) = false
-goesOn (Price place) = false
+abbrev pub goes_on : Stop → Bool
+goes_on Going = true
+goes_on (By r) = false
+goes_on (Price place) = false
 
 -- a refusal prints a line such as refused,3,8: the line's ordinal, the refusal; for a bad price it gains at its end the field's place:
 -- refused,3,9,2
-unfoldable pub refusalLine : ℕ → Stop → List ℕ
-refusalLine ordinal Going = []
-refusalLine ordinal (By r) = refusalPart ordinal r lineFeed
-refusalLine ordinal (Price place) = refusalPart ordinal refusal.BadPrice comma ++ field (numeral place) lineFeed
+unfoldable pub refusal_line : ℕ → Stop → List ℕ
+refusal_line ordinal Going = []
+refusal_line ordinal (By r) = refusal_part ordinal r line_feed
+refusal_line ordinal (Price place) = refusal_part ordinal refusal.BadPrice comma ++ field (numeral place) line_feed
 
 -- the recogniser, a label, and how many bars got it
-unfoldable pub countLine : ℕ → ℕ → ℕ → List ℕ
-countLine k code count = field (numeral k) comma ++ field (bytes_of code) comma ++ field (numeral count) lineFeed
+unfoldable pub count_line : ℕ → ℕ → ℕ → List ℕ
+count_line k code count = field (numeral k) comma ++ field (bytes_of code) comma ++ field (numeral count) line_feed
 
 -- a line in so much room: all of it, or nothing where the room is less than such a line may need
-abbrev pub lineIn : ℕ → ℕ → List ℕ → List ℕ
-lineIn need room line = cond (leb need room) line []
+abbrev pub line_in : ℕ → ℕ → List ℕ → List ℕ
+line_in need room line = cond (leb need room) line []
 
 -- ---- what a buffer holds
 
@@ -90,4 +90,4 @@ Written s at xs t i = (i ≡ at + length xs) × (t ≡ overlay s at xs)
 
 -- the same of a line, where there is room for the longest of its kind
 abbrev pub Printed : ℕ → List ℕ → List ℕ → ℕ → List ℕ → ℕ → Type 0
-Printed need line s at t i = Written s at (lineIn need (length s - at) line) t i
+Printed need line s at t i = Written s at (line_in need (length s - at) line) t i

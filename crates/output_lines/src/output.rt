@@ -1,7 +1,7 @@
 // Lines of output, written into a buffer from a place on. Each function answers the place behind what it wrote.
 ghost use Rattle.std.specs.Prelude.{◌≡◌, ◌+◌, ◌≤◌, length};
 ghost use Rattle.label_texts.specs.LabelText.{bytes_of};
-ghost use Rattle.output_lines.specs.Output.{numeral, field, pairLine, row_lines, longestRow, longestCount, longestRefusal, lineRoom, goesOn, refusalPart, refusalLine, countLine, Written, Printed};
+ghost use Rattle.output_lines.specs.Output.{numeral, field, pair_line, row_lines, longest_row, longest_count, longest_refusal, line_room, goes_on, refusal_part, refusal_line, count_line, Written, Printed};
 
 use input_lines::lines::{COMMA, LINE_FEED};
 use label_texts::label_text::text_of;
@@ -30,7 +30,7 @@ pub enum Stop {
 }
 
 pub fn goes_on(stop: Stop) -> bool
-    ensures { result ≡ goesOn stop }
+    ensures { result ≡ goes_on stop }
 {
     match stop {
         Stop::Going => true,
@@ -76,8 +76,8 @@ fn write_label(code: u8, end: u8, out: &mut [u8], at: usize) -> usize
 
 // The line of one recogniser, if its v1 isn't 其他.
 fn write_pair(ordinal: u64, k: u64, v1: u8, v2: u8, out: &mut [u8], at: usize) -> usize
-    requires { at + longestRow ≤ length out.old }
-    ensures { Written out.old at (pairLine ordinal k v1 v2) out.new result }
+    requires { at + longest_row ≤ length out.old }
+    ensures { Written out.old at (pair_line ordinal k v1 v2) out.new result }
 {
     if v1 == 0 {
         return at;
@@ -91,7 +91,7 @@ fn write_pair(ordinal: u64, k: u64, v1: u8, v2: u8, out: &mut [u8], at: usize) -
 // A refusal and the byte behind it: the word and its comma, and two numbers of at most 20 digits with what ends each.
 fn write_part(ordinal: u64, why: Refusal, end: u8, out: &mut [u8], at: usize) -> usize
     requires { at + 50 ≤ length out.old }
-    ensures { (result ≤ at + 50) × Written out.old at (refusalPart ordinal why end) out.new result }
+    ensures { (result ≤ at + 50) × Written out.old at (refusal_part ordinal why end) out.new result }
 {
     let word = *b"refused";
     let a = write_field(&word, COMMA, out, at);
@@ -103,8 +103,8 @@ fn write_part(ordinal: u64, why: Refusal, end: u8, out: &mut [u8], at: usize) ->
 
 // The lines of a bar whose row the sheet has, where 1,332 bytes are left.
 pub fn print_rows(ordinal: u64, sheet: [u8; ROW_BYTES], out: &mut [u8], at: usize) -> usize
-    ensures printed { Printed lineRoom (row_lines ordinal 0 sheet) out.old at out.new result }
-    ensures within { result ≤ at + lineRoom }
+    ensures printed { Printed line_room (row_lines ordinal 0 sheet) out.old at out.new result }
+    ensures within { result ≤ at + line_room }
 {
     let left = out.len() - least(at, out.len());
     if left < ROOM {
@@ -123,8 +123,8 @@ pub fn print_rows(ordinal: u64, sheet: [u8; ROW_BYTES], out: &mut [u8], at: usiz
 
 // The line of a refusal, if there is one, where 71 bytes are left.
 pub fn print_refusal(ordinal: u64, stop: Stop, out: &mut [u8], at: usize) -> usize
-    ensures printed { Printed longestRefusal (refusalLine ordinal stop) out.old at out.new result }
-    ensures within { result ≤ at + longestRefusal }
+    ensures printed { Printed longest_refusal (refusal_line ordinal stop) out.old at out.new result }
+    ensures within { result ≤ at + longest_refusal }
 {
     let left = out.len() - least(at, out.len());
     if left < LONGEST_REFUSAL {
@@ -142,7 +142,7 @@ pub fn print_refusal(ordinal: u64, stop: Stop, out: &mut [u8], at: usize) -> usi
 
 // The line of a count, where 58 bytes are left.
 pub fn print_count(k: u64, code: u8, count: u64, out: &mut [u8], at: usize) -> usize
-    ensures { Printed longestCount (countLine k code count) out.old at out.new result }
+    ensures { Printed longest_count (count_line k code count) out.old at out.new result }
 {
     let left = out.len() - least(at, out.len());
     if left < LONGEST_COUNT {

@@ -2,7 +2,7 @@
 ghost use Rattle.std.specs.Prelude.{◌≡◌, cond, ◌≤◌, min, ltb, length, get_or};
 ghost use Rattle.answers.specs.declared.refusals.Verdict.TheVariants.{Accepted};
 ghost use Rattle.tallies.specs.Tally.{Shaped};
-ghost use Rattle.tallies.specs.Feed.{lent, verdictWith, talliedOf, talliedSheet};
+ghost use Rattle.tallies.specs.Feed.{lent, verdict_with, tallied_of, tallied_sheet};
 
 use bar_box::{BarBox, Outcome};
 use measures::least;
@@ -31,10 +31,10 @@ fn take_parts(
     prices: &[f64],
     sheet: &mut [u8],
 ) -> Tallied
-    requires { (verdictWith b tally (lent prices.now sheet.old) ≡ Accepted) × (Shaped tally) }
+    requires { (verdict_with b tally (lent prices.now sheet.old) ≡ Accepted) × (Shaped tally) }
     ensures { let f = lent prices.now sheet.old in
-        let one = talliedOf b tally f in
-        (result ≡ record { verdict = one.verdict; after = one.after; tally = cond counts one.tally tally }) × (sheet.new ≡ talliedSheet b tally f) }
+        let one = tallied_of b tally f in
+        (result ≡ record { verdict = one.verdict; after = one.after; tally = cond counts one.tally tally }) × (sheet.new ≡ tallied_sheet b tally f) }
 {
     let total = measures::count(prices);
     // what a feed hands back is kept as it is: a box that is taken out of it is copied
@@ -83,8 +83,8 @@ pub fn feed_parts(
     sheet: &mut [u8],
 ) -> Tallied
     ensures { let f = lent prices.now sheet.old in
-        let one = talliedOf b tally f in
-        (result ≡ record { verdict = one.verdict; after = one.after; tally = cond counts one.tally tally }) × (sheet.new ≡ talliedSheet b tally f) }
+        let one = tallied_of b tally f in
+        (result ≡ record { verdict = one.verdict; after = one.after; tally = cond counts one.tally tally }) × (sheet.new ≡ tallied_sheet b tally f) }
 {
     let t = b.thresholds;
     let right = bar_box::is_right(b);

@@ -9,12 +9,12 @@ use borrow.Author.Tests.{leb-true}
 use lib.Dec.{leb}
 use lib.ListN.{length, get_or, drop}
 use lib.Seq.{drop-cons}
-use Rattle.price_texts.specs.PriceText.{isDigit, digitsIn, decimal}
+use Rattle.price_texts.specs.PriceText.{is_digit, digits_in, decimal}
 use Rattle.input_lines.proofs.RunLaws.{both, all_pass}
 
-digits-head : (b : ℕ) (bs : List ℕ) → digitsIn (b ∷ bs) ≡ length (b ∷ bs) → (48 ≤ b) × (b ≤ 57) × (digitsIn bs ≡ length bs)
+digits-head : (b : ℕ) (bs : List ℕ) → digits_in (b ∷ bs) ≡ length (b ∷ bs) → (48 ≤ b) × (b ≤ 57) × (digits_in bs ≡ length bs)
 digits-head b bs e =
-    let h = all_pass isDigit b bs e in
+    let h = all_pass is_digit b bs e in
     let t = both (leb 48 b) (leb b 57) h.0 in
     (leb-true 48 b t.0, leb-true b 57 t.1, h.1)
 
@@ -24,7 +24,7 @@ unfolding decimal
 decimal-grows n [] = omega arith
 decimal-grows n (b ∷ bs) = omega (arith, decimal-grows (10 * n + (b - 48)) bs)
 
-decimal-below : (n : ℕ) (s : List ℕ) → digitsIn s ≡ length s → decimal n s < (n + 1) * 10 ^ length s
+decimal-below : (n : ℕ) (s : List ℕ) → digits_in s ≡ length s → decimal n s < (n + 1) * 10 ^ length s
 unfolding decimal
 decimal-below n [] e = omega arith
 decimal-below n (b ∷ bs) e =
@@ -36,7 +36,7 @@ decimal-below n (b ∷ bs) e =
     omega (arith, decimal-below m bs h.2)
 
 -- k digits at most after a number below m
-pub decimal-small : (n : ℕ) (s : List ℕ) (m k : ℕ) → digitsIn s ≡ length s → length s ≤ k → n < m → decimal n s < m * 10 ^ k
+pub decimal-small : (n : ℕ) (s : List ℕ) (m k : ℕ) → digits_in s ≡ length s → length s ≤ k → n < m → decimal n s < m * 10 ^ k
 decimal-small n s m k e l h =
     let le : (n + 1) * 10 ^ length s ≤ m * 10 ^ k = mul-le-mul (omega arith) (pow-le-pow_right (omega arith) l) in
     lt_of_lt_of_le (decimal-below n s e) le
@@ -45,11 +45,11 @@ decimal-small n s m k e l h =
 pub record OneMore (s : List ℕ) (i sum total : ℕ) : Type 0 where
   pub low : 48 ≤ get_or s i 0
   pub value : decimal (10 * sum + (get_or s i 0 - 48)) (drop (i + 1) s) ≡ total
-  pub digits : digitsIn (drop (i + 1) s) ≡ length (drop (i + 1) s)
+  pub digits : digits_in (drop (i + 1) s) ≡ length (drop (i + 1) s)
   pub most : 10 * sum + (get_or s i 0 - 48) ≤ total
 
 pub one_more : (s : List ℕ) (i sum total : ℕ) → i < length s → decimal sum (drop i s) ≡ total
-    → digitsIn (drop i s) ≡ length (drop i s) → OneMore s i sum total
+    → digits_in (drop i s) ≡ length (drop i s) → OneMore s i sum total
 unfolding decimal
 one_more s i sum total h v d =
     let cut = drop-cons s i 0 h in

@@ -14,12 +14,12 @@ minus = 45
 abbrev pub point : ℕ
 point = 46
 
-abbrev pub isDigit : ℕ → Bool
-isDigit b = leb 48 b && leb b 57
+abbrev pub is_digit : ℕ → Bool
+is_digit b = leb 48 b && leb b 57
 
 -- how many digits the bytes begin with
-abbrev pub digitsIn : List ℕ → ℕ
-digitsIn s = run_of isDigit s
+abbrev pub digits_in : List ℕ → ℕ
+digits_in s = run_of is_digit s
 
 -- ---- the value
 
@@ -35,17 +35,17 @@ scaled n f = div binary64 (of_int binary64 (pos n)) (of_int binary64 (pos (10 ^ 
 -- ---- the grammar
 
 -- after the point: 1 to 6 digits; those before it make n
-unfoldable pub fractionOf : ℕ → List ℕ → Price
-fractionOf n t =
-    cond (eqb (digitsIn t) (length t) && leb 1 (length t) && leb (length t) 6) (Value (scaled (decimal n t) (length t))) Bad
+unfoldable pub fraction_of : ℕ → List ℕ → Price
+fraction_of n t =
+    cond (eqb (digits_in t) (length t) && leb 1 (length t) && leb (length t) 6) (Value (scaled (decimal n t) (length t))) Bad
 
 -- 1 to 9 digits, and then nothing, or a point and a fraction
-unfoldable pub unsignedOf : List ℕ → Price
-unsignedOf s =
-    let k = digitsIn s in
+unfoldable pub unsigned_of : List ℕ → Price
+unsigned_of s =
+    let k = digits_in s in
     let n = decimal 0 (take k s) in
     cond (leb 1 k && leb k 9)
-    (cond (eqb k (length s)) (Value (scaled n 0)) (cond (eqb (get_or s k 0) point) (fractionOf n (drop (k + 1) s)) Bad))
+    (cond (eqb k (length s)) (Value (scaled n 0)) (cond (eqb (get_or s k 0) point) (fraction_of n (drop (k + 1) s)) Bad))
     Bad
 
 -- then negated if minus
@@ -54,9 +54,9 @@ negated (Value x) = Value (neg x)
 negated Bad = Bad
 
 -- the three bytes n, a, n
-unfoldable pub nanText : List ℕ → Bool
-nanText s = eqb (length s) 3 && (eqb (get_or s 0 0) 110 && eqb (get_or s 1 0) 97 && eqb (get_or s 2 0) 110)
+unfoldable pub nan_text : List ℕ → Bool
+nan_text s = eqb (length s) 3 && (eqb (get_or s 0 0) 110 && eqb (get_or s 1 0) 97 && eqb (get_or s 2 0) 110)
 
 -- a price
-unfoldable pub priceOf : List ℕ → Price
-priceOf s = cond (nanText s) (Value nan) (cond (eqb (get_or s 0 0) minus) (negated (unsignedOf (drop 1 s))) (unsignedOf s))
+unfoldable pub price_of : List ℕ → Price
+price_of s = cond (nan_text s) (Value nan) (cond (eqb (get_or s 0 0) minus) (negated (unsigned_of (drop 1 s))) (unsigned_of s))

@@ -2,7 +2,7 @@
 ghost use Rattle.std.specs.Prelude.{◌≡◌, ◌^◌, ◌≤◌, ◌<◌, length, get_or, eqb, pos};
 ghost use Rattle.std.specs.Float.{binary64};
 ghost use Rattle.std.specs.Float.Ieee.{of_int};
-ghost use Rattle.price_texts.specs.PriceText.{minus, isDigit, digitsIn, decimal, scaled, fractionOf, unsignedOf, negated, nanText, priceOf};
+ghost use Rattle.price_texts.specs.PriceText.{minus, is_digit, digits_in, decimal, scaled, fraction_of, unsigned_of, negated, nan_text, price_of};
 
 use prices::price;
 
@@ -14,14 +14,14 @@ pub enum Price {
 }
 
 fn is_digit(b: u8) -> bool
-    ensures { result ≡ isDigit b }
+    ensures { result ≡ is_digit b }
 {
     (48 <= b) & (b <= 57)
 }
 
 // How many digits s begins with.
 fn digits_in(s: &[u8]) -> usize
-    ensures { (result ≡ digitsIn s.now) × (result ≤ length s.now) }
+    ensures { (result ≡ digits_in s.now) × (result ≤ length s.now) }
 {
     let mut i = 0usize;
     while i < s.len() {
@@ -41,7 +41,7 @@ fn wide(b: u8) -> u64
 
 // The number that n's digits and then those of s make.
 fn decimal_of(n: u64, s: &[u8]) -> u64
-    requires { (digitsIn s.now ≡ length s.now) × (length s.now ≤ 9) × (n < 10 ^ 9) }
+    requires { (digits_in s.now ≡ length s.now) × (length s.now ≤ 9) × (n < 10 ^ 9) }
     ensures { result ≡ decimal n s.now }
 {
     let mut sum = n;
@@ -81,7 +81,7 @@ fn quotient(n: u64, f: usize) -> f64
 // What comes after the point.
 fn fraction(whole: u64, t: &[u8]) -> Price
     requires { whole < 10 ^ 9 }
-    ensures { result ≡ fractionOf whole t.now }
+    ensures { result ≡ fraction_of whole t.now }
 {
     let f = digits_in(t);
     if f != t.len() {
@@ -98,7 +98,7 @@ fn fraction(whole: u64, t: &[u8]) -> Price
 
 // A price with no sign.
 fn unsigned(s: &[u8]) -> Price
-    ensures { result ≡ unsignedOf s.now }
+    ensures { result ≡ unsigned_of s.now }
 {
     let k = digits_in(s);
     if k < 1 {
@@ -127,7 +127,7 @@ fn negate(p: Price) -> Price
 }
 
 fn is_nan_text(s: &[u8]) -> bool
-    ensures { result ≡ nanText s.now }
+    ensures { result ≡ nan_text s.now }
 {
     if s.len() != 3 {
         return false;
@@ -146,7 +146,7 @@ fn has_minus(s: &[u8]) -> bool
 
 // The price that s is the text of.
 pub fn read_price(s: &[u8]) -> Price
-    ensures { result ≡ priceOf s.now }
+    ensures { result ≡ price_of s.now }
 {
     if is_nan_text(s) {
         return Price::Value(price::not_a_number());

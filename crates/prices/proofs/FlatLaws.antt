@@ -11,7 +11,7 @@ use lib.Ieee.{Float, nan, inf, fin, binary64, prec, low, emax, up, down, level, 
 use lib.Ieee.Exact.{HasValue, round_exact}
 use lib.Ieee.Fits.{up_pos, down_pos}
 use Rattle.prices.specs.declared.bars.Bar.{Bar}
-use Rattle.prices.specs.Price.{zero as zeroPrice, absOf}
+use Rattle.prices.specs.Price.{zero as zeroPrice, abs_of}
 use Rattle.prices.specs.Bar.{body_of}
 use Rattle.prices.proofs.Order.{lt-nan}
 
@@ -81,8 +81,8 @@ either : (t : Bool) (x y : Float) → Nil x → Nil y → Nil (cond t x y)
 either true x y h g = h
 either false x y h g = g
 
-abs-nil : (x : Float) → Nil x → Nil (absOf x)
-unfolding absOf of_bits
+abs-nil : (x : Float) → Nil x → Nil (abs_of x)
+unfolding abs_of of_bits
 abs-nil x h = either (lt x zeroPrice) (neg x) (cond (eq x zeroPrice) zeroPrice x) (neg-nil x h) (either (eq x zeroPrice) zeroPrice x refl h)
 
 div-nil : (x y : Float) → Nil x → Nil y → div binary64 x y ≡ nan
@@ -124,6 +124,6 @@ pub flat : (th : Float) (b : Bar) → eq b.close b.«open» ≡ true → eq b.hi
     → lt th (div binary64 (sub binary64 b.high b.low) (body_of b)) ≡ false
 unfolding body_of
 flat th b level same =
-    rw (div-nil (sub binary64 b.high b.low) (absOf (sub binary64 b.«open» b.close)) (sub-nil b.high b.low same)
+    rw (div-nil (sub binary64 b.high b.low) (abs_of (sub binary64 b.«open» b.close)) (sub-nil b.high b.low same)
     (abs-nil (sub binary64 b.«open» b.close) (sub-nil b.«open» b.close (eq-swaps b.close b.«open» level))))
     (lt-nan th)

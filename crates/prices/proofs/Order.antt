@@ -9,7 +9,7 @@ use borrow.Author.Tests.{ltb-true, ltb-false, lt-ltb, le-ltb, eqb-true, eqb-fals
 use lib.Dec.{ltb, eqb}
 use lib.Ieee.{Float, nan, inf, fin, up, down, below, level, lt, eq, le, is_nan}
 use lib.Ieee.Fits.{down_pos}
-use Rattle.prices.specs.Price.{max_of, minOf}
+use Rattle.prices.specs.Price.{max_of, min_of}
 
 -- ---- signed numbers over one denominator
 
@@ -323,8 +323,8 @@ pub max_assoc : (a b c : Float) → max_of (max_of a b) c ≡ max_of a (max_of b
 unfolding max_of
 max_assoc = assoc lt rising
 
-pub min_assoc : (a b c : Float) → minOf (minOf a b) c ≡ minOf a (minOf b c)
-unfolding minOf
+pub min_assoc : (a b c : Float) → min_of (min_of a b) c ≡ min_of a (min_of b c)
+unfolding min_of
 min_assoc = assoc (λ x y. lt y x) falling
 
 -- what is above the larger of two is above a known second; what is below the smaller is below it
@@ -332,8 +332,8 @@ pub max-second : (a b z : Float) → is_nan b ≡ false → lt (max_of a b) z �
 unfolding max_of
 max-second = second lt rising
 
-pub min-second : (a b z : Float) → is_nan b ≡ false → lt z (minOf a b) ≡ true → lt z b ≡ true
-unfolding minOf
+pub min-second : (a b z : Float) → is_nan b ≡ false → lt z (min_of a b) ≡ true → lt z b ≡ true
+unfolding min_of
 min-second = second (λ x y. lt y x) falling
 
 -- the larger of two known values is below z if both are; the smaller is above z if both are
@@ -341,24 +341,24 @@ pub max-both : (a b z : Float) → is_nan a ≡ false → is_nan b ≡ false →
 unfolding max_of
 max-both = both lt rising
 
-pub min-both : (a b z : Float) → is_nan a ≡ false → is_nan b ≡ false → lt z (minOf a b) ≡ (lt z a && lt z b)
-unfolding minOf
+pub min-both : (a b z : Float) → is_nan a ≡ false → is_nan b ≡ false → lt z (min_of a b) ≡ (lt z a && lt z b)
+unfolding min_of
 min-both = both (λ x y. lt y x) falling
 
 pub max-known : (a b : Float) → is_nan b ≡ false → is_nan (max_of a b) ≡ false
 unfolding max_of
 max-known = known lt rising
 
-pub min-known : (a b : Float) → is_nan b ≡ false → is_nan (minOf a b) ≡ false
-unfolding minOf
+pub min-known : (a b : Float) → is_nan b ≡ false → is_nan (min_of a b) ≡ false
+unfolding min_of
 min-known = known (λ x y. lt y x) falling
 
 pub max-stays-known : (a b : Float) → is_nan a ≡ false → is_nan (max_of a b) ≡ false
 unfolding max_of
 max-stays-known = stays-known lt rising
 
-pub min-stays-known : (a b : Float) → is_nan a ≡ false → is_nan (minOf a b) ≡ false
-unfolding minOf
+pub min-stays-known : (a b : Float) → is_nan a ≡ false → is_nan (min_of a b) ≡ false
+unfolding min_of
 min-stays-known = stays-known (λ x y. lt y x) falling
 
 -- before a value that is no NaN one comparison is enough
@@ -366,8 +366,8 @@ pub max-reached : (r x : Float) → is_nan r ≡ false → cond (le r x) x r ≡
 unfolding max_of
 max-reached r x k = rw (reaches-up r x k) (reached lt rising r x k)
 
-pub min-reached : (r x : Float) → is_nan r ≡ false → cond (le x r) x r ≡ minOf x r
-unfolding minOf
+pub min-reached : (r x : Float) → is_nan r ≡ false → cond (le x r) x r ≡ min_of x r
+unfolding min_of
 min-reached r x k = rw (reaches-down r x k) (reached (λ x y. lt y x) falling r x k)
 
 pub both_ways : {A : Type 0} {t : Bool} → t ≡ true → t ≡ false → A
@@ -382,10 +382,10 @@ max-by-choice a b = go (is_nan a) refl
     go true h = rw (is-nan a h) (sym (of_nan lt rising b))
     go false h = simp h
 
-pub min-by-choice : (a b : Float) → cond (is_nan a) b (cond (lt b a) b a) ≡ minOf a b
-unfolding minOf
+pub min-by-choice : (a b : Float) → cond (is_nan a) b (cond (lt b a) b a) ≡ min_of a b
+unfolding min_of
 min-by-choice a b = go (is_nan a) refl
   where
-    go : (t : Bool) → is_nan a ≡ t → cond t b (cond (lt b a) b a) ≡ minOf a b
+    go : (t : Bool) → is_nan a ≡ t → cond t b (cond (lt b a) b a) ≡ min_of a b
     go true h = rw (is-nan a h) (sym (of_nan (λ x y. lt y x) falling b))
     go false h = simp h

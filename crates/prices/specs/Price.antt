@@ -9,8 +9,8 @@ abbrev pub zero : Float
 zero = of_bits binary64 0
 
 -- 0.25
-abbrev pub aQuarter : Float
-aQuarter = of_bits binary64 0x3fd0_0000_0000_0000
+abbrev pub a_quarter : Float
+a_quarter = of_bits binary64 0x3fd0_0000_0000_0000
 
 -- 10.0
 abbrev pub ten : Float
@@ -21,13 +21,13 @@ unfoldable pub max_of : Float → Float → Float
 max_of a b = cond (is_nan a && not (is_nan b) || lt a b) b a
 
 -- min is its mirror
-unfoldable pub minOf : Float → Float → Float
-minOf a b = cond (is_nan a && not (is_nan b) || lt b a) b a
+unfoldable pub min_of : Float → Float → Float
+min_of a b = cond (is_nan a && not (is_nan b) || lt b a) b a
 
 -- |x|: what is below zero negated, of either zero +0
-unfoldable pub absOf : Float → Float
-absOf x = cond (lt x zero) (neg x) (cond (eq x zero) zero x)
+unfoldable pub abs_of : Float → Float
+abs_of x = cond (lt x zero) (neg x) (cond (eq x zero) zero x)
 
 -- a square is a product with itself
-unfoldable pub squareOf : Float → Float
-squareOf x = mul binary64 x x
+unfoldable pub square_of : Float → Float
+square_of x = mul binary64 x x

@@ -1,6 +1,6 @@
 // One bar and its measures.
 ghost use Rattle.std.specs.Prelude.{◌≡◌};
-ghost use Rattle.prices.specs.Bar.{body_of, upperOf, lowerOf, longShadow, dojiOf};
+ghost use Rattle.prices.specs.Bar.{body_of, upper_of, lower_of, long_shadow, doji_of};
 
 use crate::price;
 
@@ -22,21 +22,21 @@ pub fn body(b: Bar) -> f64
 
 // The upper shadow.
 pub fn upper(b: Bar) -> f64
-    ensures { result ≡ upperOf b }
+    ensures { result ≡ upper_of b }
 {
     b.high - price::max(b.open, b.close)
 }
 
 // The lower shadow.
 pub fn lower(b: Bar) -> f64
-    ensures { result ≡ lowerOf b }
+    ensures { result ≡ lower_of b }
 {
     price::min(b.open, b.close) - b.low
 }
 
 // The longer shadow.
 pub fn long_shadow(b: Bar) -> f64
-    ensures { result ≡ longShadow b }
+    ensures { result ≡ long_shadow b }
 {
     price::max(upper(b), lower(b))
 }
@@ -44,7 +44,7 @@ pub fn long_shadow(b: Bar) -> f64
 // The source's check_szx at a tenth of th, which counts tenths: a flat bar is no doji. The source asks close != open before the quotient;
 // no bar needs that: where close == open the quotient is an infinity, and then the bar is not flat, or NaN, which is above nothing.
 pub fn is_doji(b: Bar, th: f64) -> bool
-    ensures { result ≡ dojiOf th b }
+    ensures { result ≡ doji_of th b }
 {
     ((b.close == b.open) & (b.high != b.low)) | ((b.high - b.low) / body(b) > th / 10.0)
 }

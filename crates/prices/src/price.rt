@@ -2,7 +2,7 @@
 ghost use Rattle.std.specs.Prelude.{◌≡◌, cond, true, false};
 ghost use Rattle.std.specs.Float.Ieee.{is_nan};
 ghost use Rattle.std.specs.Float.{inf, nan};
-ghost use Rattle.prices.specs.Price.{max_of, minOf, absOf, squareOf};
+ghost use Rattle.prices.specs.Price.{max_of, min_of, abs_of, square_of};
 
 // x if c holds, else y. The one branch of the measures: what chooses a price calls it.
 pub fn pick(c: bool, x: f64, y: f64) -> f64
@@ -47,20 +47,20 @@ pub fn max(a: f64, b: f64) -> f64
 
 // The smaller of two prices, the mirror of max.
 pub fn min(a: f64, b: f64) -> f64
-    ensures { result ≡ minOf a b }
+    ensures { result ≡ min_of a b }
 {
     pick(is_nan(a), b, pick(b < a, b, a))
 }
 
 // The magnitude of x; of either zero +0.
 pub fn abs(x: f64) -> f64
-    ensures { result ≡ absOf x }
+    ensures { result ≡ abs_of x }
 {
     pick(x < 0.0, -x, pick(x == 0.0, 0.0, x))
 }
 
 pub fn square(x: f64) -> f64
-    ensures { result ≡ squareOf x }
+    ensures { result ≡ square_of x }
 {
     x * x
 }

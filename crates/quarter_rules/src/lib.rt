@@ -2,8 +2,8 @@
 // All is proved, nothing is assumed, and no public function has a `requires`: each contract is an equation with a definition of specs/,
 // for every input.
 ghost use Rattle.std.specs.Prelude.{◌≡◌};
-ghost use Rattle.measures.specs.Bar.{barsOf};
-ghost use Rattle.quarter_rules.specs.QuarterRule.{quarterIn, quarterExtremes, cut_of, umbrellaOf, sanXingXian, engulfsUp, engulfsDown, tenMo, partsDown, partsUp, fenShouXian, candleOf, zhuHuoXian, countersOf, countersUp, countersDown, fanJiXian};
+ghost use Rattle.measures.specs.Bar.{bars_of};
+ghost use Rattle.quarter_rules.specs.QuarterRule.{quarter_in, quarter_extremes, cut_of, umbrella_of, san_xing_xian, engulfs_up, engulfs_down, ten_mo, parts_down, parts_up, fen_shou_xian, candle_of, zhu_huo_xian, counters_of, counters_up, counters_down, fan_ji_xian};
 
 use measures::{Bar, Extremes};
 use rule_types::counts::QUARTER_BARS;
@@ -18,7 +18,7 @@ pub struct Quarter {
 
 // deep: p is 22 or more; otherwise no side counts.
 pub fn quarter_in(deep: bool, e: Extremes, b1: Bar) -> Quarter
-    ensures { result ≡ quarterIn deep e b1 }
+    ensures { result ≡ quarter_in deep e b1 }
 {
     Quarter {
         low: deep & measures::in_low_side(e, b1),
@@ -28,7 +28,7 @@ pub fn quarter_in(deep: bool, e: Extremes, b1: Bar) -> Quarter
 
 // The extremes of the window of 20 bars.
 pub fn quarter_extremes(w: &[f64]) -> Extremes
-    ensures { result ≡ quarterExtremes (barsOf w.now) }
+    ensures { result ≡ quarter_extremes (bars_of w.now) }
 {
     measures::extremes_of(measures::last_bars(w, 1, QUARTER_BARS))
 }
@@ -49,7 +49,7 @@ fn cut(x: f64) -> f64
 
 // A long lower shadow and a short upper one.
 fn is_umbrella(b: Bar, th: f64) -> bool
-    ensures { result ≡ umbrellaOf th b }
+    ensures { result ≡ umbrella_of th b }
 {
     let t = cut(th * 100.0);
     let body = measures::body(b);
@@ -57,7 +57,7 @@ fn is_umbrella(b: Bar, th: f64) -> bool
 }
 
 pub fn san_xing_xian(th: f64, q: Quarter, b1: Bar) -> Pair
-    ensures { result ≡ sanXingXian th q b1 }
+    ensures { result ≡ san_xing_xian th q b1 }
 {
     Pair {
         v1: pick(is_umbrella(b1, th), Label::Met, Label::Other),
@@ -72,19 +72,19 @@ pub fn san_xing_xian(th: f64, q: Quarter, b1: Bar) -> Pair
 // 1: ten_mo
 
 fn engulfs_up(b1: Bar, b2: Bar) -> bool
-    ensures { result ≡ engulfsUp b1 b2 }
+    ensures { result ≡ engulfs_up b1 b2 }
 {
     (b1.close > b1.open) & (b1.close > b2.high) & (b1.open < b2.low)
 }
 
 fn engulfs_down(b1: Bar, b2: Bar) -> bool
-    ensures { result ≡ engulfsDown b1 b2 }
+    ensures { result ≡ engulfs_down b1 b2 }
 {
     (b1.close < b1.open) & (b1.close < b2.low) & (b1.open > b2.high)
 }
 
 pub fn ten_mo(q: Quarter, b1: Bar, b2: Bar) -> Pair
-    ensures { result ≡ tenMo q b1 b2 }
+    ensures { result ≡ ten_mo q b1 b2 }
 {
     let down = pick(
         q.high & engulfs_down(b1, b2),
@@ -104,7 +104,7 @@ pub fn ten_mo(q: Quarter, b1: Bar, b2: Bar) -> Pair
 // 7: fen_shou_xian. Few bars open where the one before did, so that most need no division.
 
 fn parts_down(zdf: u32, b1: Bar, b2: Bar) -> bool
-    ensures { result ≡ partsDown zdf b1 b2 }
+    ensures { result ≡ parts_down zdf b1 b2 }
 {
     let level = b1.open == b2.open;
     if level {
@@ -117,7 +117,7 @@ fn parts_down(zdf: u32, b1: Bar, b2: Bar) -> bool
 }
 
 fn parts_up(zdf: u32, b1: Bar, b2: Bar) -> bool
-    ensures { result ≡ partsUp zdf b1 b2 }
+    ensures { result ≡ parts_up zdf b1 b2 }
 {
     let level = b1.open == b2.open;
     if level {
@@ -131,7 +131,7 @@ fn parts_up(zdf: u32, b1: Bar, b2: Bar) -> bool
 
 // Equal opens bind the first alternative only.
 pub fn fen_shou_xian(zdf: u32, q: Quarter, b1: Bar, b2: Bar) -> Pair
-    ensures { result ≡ fenShouXian zdf q b1 b2 }
+    ensures { result ≡ fen_shou_xian zdf q b1 b2 }
 {
     let met = ((b1.open == b2.open) & (b1.close < b2.low)) | (b1.close > b2.high);
     let rising = pick(
@@ -152,7 +152,7 @@ pub fn fen_shou_xian(zdf: u32, q: Quarter, b1: Bar, b2: Bar) -> Pair
 // 8: zhu_huo_xian
 
 fn is_candle(b: Bar, th: f64, zf: u32) -> bool
-    ensures { result ≡ candleOf th zf b }
+    ensures { result ≡ candle_of th zf b }
 {
     let up = measures::upper(b);
     let down = measures::lower(b);
@@ -164,7 +164,7 @@ fn is_candle(b: Bar, th: f64, zf: u32) -> bool
 }
 
 pub fn zhu_huo_xian(th: f64, zf: u32, q: Quarter, b1: Bar) -> Pair
-    ensures { result ≡ zhuHuoXian th zf q b1 }
+    ensures { result ≡ zhu_huo_xian th zf q b1 }
 {
     Pair {
         v1: pick(is_candle(b1, th, zf), Label::Met, Label::Other),
@@ -181,7 +181,7 @@ pub fn zhu_huo_xian(th: f64, zf: u32, q: Quarter, b1: Bar) -> Pair
 // Whether bar3 opens a body or more from the close of bar2 and comes back to it, after a body of some size. Few bars open that far off, so
 // that one division is made for most.
 fn counters(e: Extremes, bar2: Bar, bar3: Bar) -> bool
-    ensures { result ≡ countersOf e bar2 bar3 }
+    ensures { result ≡ counters_of e bar2 bar3 }
 {
     let body2 = measures::body(bar2);
     let x1 = measures::abs(bar3.open - bar2.close) / body2;
@@ -196,7 +196,7 @@ fn counters(e: Extremes, bar2: Bar, bar3: Bar) -> bool
 }
 
 fn counters_up(e: Extremes, bar1: Bar, bar2: Bar, bar3: Bar) -> bool
-    ensures { result ≡ countersUp e bar1 bar2 bar3 }
+    ensures { result ≡ counters_up e bar1 bar2 bar3 }
 {
     measures::in_low_side(e, bar1)
         & (bar1.close > bar2.close)
@@ -205,7 +205,7 @@ fn counters_up(e: Extremes, bar1: Bar, bar2: Bar, bar3: Bar) -> bool
 }
 
 fn counters_down(e: Extremes, bar1: Bar, bar2: Bar, bar3: Bar) -> bool
-    ensures { result ≡ countersDown e bar1 bar2 bar3 }
+    ensures { result ≡ counters_down e bar1 bar2 bar3 }
 {
     measures::in_high_side(e, bar1)
         & (bar2.close > bar1.close)
@@ -214,7 +214,7 @@ fn counters_down(e: Extremes, bar1: Bar, bar2: Bar, bar3: Bar) -> bool
 }
 
 pub fn fan_ji_xian(e: Extremes, bar1: Bar, bar2: Bar, bar3: Bar) -> Pair
-    ensures { result ≡ fanJiXian e bar1 bar2 bar3 }
+    ensures { result ≡ fan_ji_xian e bar1 bar2 bar3 }
 {
     let met = counters(e, bar2, bar3);
     if met {

@@ -2,12 +2,12 @@
 ghost use Rattle.std.specs.Prelude.{◌≡◌, cond, ◌+◌, ◌*◌, ◌≤◌, ◌<◌, eqb, length, take};
 ghost use Rattle.std.specs.Float.{binary64};
 ghost use Rattle.std.specs.Float.Ieee.{of_bits};
-ghost use Rattle.measures.specs.Bar.{barsOf};
-ghost use Rattle.measures.specs.Window.{windowOf};
-ghost use Rattle.rule_types.specs.Number.{gated, quarterBars};
-ghost use Rattle.thresholds.specs.Threshold.{thresholdsOf};
+ghost use Rattle.measures.specs.Bar.{bars_of};
+ghost use Rattle.measures.specs.Window.{window_of};
+ghost use Rattle.rule_types.specs.Number.{gated, quarter_bars};
+ghost use Rattle.thresholds.specs.Threshold.{thresholds_of};
 ghost use Rattle.rule_table.specs.Table.{pair_at};
-ghost use Rattle.recognisers.specs.Export.{priceAt, pricesAt, decodedPrices, export_of};
+ghost use Rattle.recognisers.specs.Export.{price_at, prices_at, decoded_prices, export_of};
 ghost use Rattle.recognisers.specs.ExportSteps.{word_at};
 
 use answers::verdicts::plain_verdict;
@@ -63,7 +63,7 @@ pub fn of_bits(w: u64) -> f64
 // The price of the eight bytes from at on.
 fn price_at(s: &[u8], at: usize) -> f64
     requires { at + 8 ≤ length s.now }
-    ensures { result ≡ priceAt s.now at }
+    ensures { result ≡ price_at s.now at }
 {
     of_bits(word(s, at))
 }
@@ -71,7 +71,7 @@ fn price_at(s: &[u8], at: usize) -> f64
 // The n prices of the bytes from at on go into the first places.
 fn prices_at(s: &[u8], at: usize, n: usize, out: &mut [f64])
     requires { (n ≤ length out.old) × (at + 8 * n ≤ length s.now) }
-    ensures { take n out.new ≡ pricesAt s.now at n }
+    ensures { take n out.new ≡ prices_at s.now at n }
 {
     let mut i = 0usize;
     while i < n {
@@ -85,7 +85,7 @@ fn prices_at(s: &[u8], at: usize, n: usize, out: &mut [f64])
 fn decode(s: &[u8], di: usize, n: usize, out: &mut [f64]) -> usize
     requires { 4 * n ≤ length out.old }
     ensures bound { result ≤ 4 * n }
-    ensures bars { barsOf (take result out.new) ≡ windowOf (barsOf (decodedPrices s.now)) di n }
+    ensures bars { bars_of (take result out.new) ≡ window_of (bars_of (decoded_prices s.now)) di n }
 {
     let p = measures::up_to(s.len() / BAR_BYTES, di);
     let m = measures::least(n, p);
@@ -96,7 +96,7 @@ fn decode(s: &[u8], di: usize, n: usize, out: &mut [f64]) -> usize
 
 // The bars of the gate's window: none for a recogniser without a gate.
 pub fn gate_bars(k: u32) -> usize
-    ensures { (result ≡ cond (eqb k gated) quarterBars 0) × (result ≤ quarterBars) }
+    ensures { (result ≡ cond (eqb k gated) quarter_bars 0) × (result ≤ quarter_bars) }
 {
     if k == counts::GATED {
         counts::QUARTER_BARS
@@ -107,7 +107,7 @@ pub fn gate_bars(k: u32) -> usize
 
 // The pair at an offset of the history that bytes stand for. Only the bars that the rule can see are read.
 fn pair_at(k: u32, t: Thresholds, di: u32, s: &[u8]) -> Pair
-    ensures { result ≡ pair_at k t (length (barsOf (decodedPrices s.now))) (barsOf (decodedPrices s.now)) di }
+    ensures { result ≡ pair_at k t (length (bars_of (decoded_prices s.now))) (bars_of (decoded_prices s.now)) di }
 {
     let len = s.len() / BAR_BYTES;
     let p = measures::up_to(len, di as usize);
@@ -140,7 +140,7 @@ pub extern "C" fn jcc_label(
     bars: &[u8],
 ) -> u32
     ensures { result ≡ export_of recogniser offset
-        (thresholdsOf th0 z2 th2 z3 th3 zdf5 th6 zdf7 th8 zf8 th10 th13 th14) bars.now }
+        (thresholds_of th0 z2 th2 z3 th3 zdf5 th6 zdf7 th8 zf8 th10 th13 th14) bars.now }
 {
     let t = Thresholds::new(
         th0, z2, th2, z3, th3, zdf5, th6, zdf7, th8, zf8, th10, th13, th14,

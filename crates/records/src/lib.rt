@@ -4,15 +4,15 @@
 // work is done on plain values.
 ghost use Rattle.std.specs.Prelude.{◌≡◌, true, ◌+◌, ◌-◌, ◌≤◌, length, take, drop};
 ghost use Prim.Native.Nat as Nat;
-ghost use Rattle.measures.specs.Window.{up_to, windowOf};
+ghost use Rattle.measures.specs.Window.{up_to, window_of};
 ghost use Rattle.answers.specs.declared.Answer.TheVariants.{Labels};
-ghost use Rattle.recognisers.specs.Number.{reachBars};
-ghost use Rattle.recognisers.specs.Threshold.{thresholdsOf};
-ghost use Rattle.recognisers.specs.Table.{judgeOf};
-ghost use Rattle.recognisers.specs.Refusal.{plainVerdict, answerTo, refusalIn, codesIn};
-ghost use Rattle.recognisers.specs.Call.{plainAnswer, plainNumber, plainCodes};
+ghost use Rattle.recognisers.specs.Number.{reach_bars};
+ghost use Rattle.recognisers.specs.Threshold.{thresholds_of};
+ghost use Rattle.recognisers.specs.Table.{judge_of};
+ghost use Rattle.recognisers.specs.Refusal.{plain_verdict, answer_to, refusal_in, codes_in};
+ghost use Rattle.recognisers.specs.Call.{plain_answer, plain_number, plain_codes};
 ghost use Rattle.recognisers.specs.Export.{result_of};
-ghost use Rattle.records.specs.HeldSteps.{windowBars};
+ghost use Rattle.records.specs.HeldSteps.{window_bars};
 
 use measures::Bar;
 use recognisers::verdicts::plain_verdict;
@@ -39,8 +39,8 @@ fn no_prices() -> [f64; counts::REACH_PRICES] {
 
 // The window of n bars from a place on. No value of a window's size is copied in a turn.
 fn gathered(bars: &[Bar], from: usize, n: usize, mut prices: [f64; counts::REACH_PRICES]) -> Window
-    requires { (from + n ≤ length bars.now) × (n ≤ reachBars) }
-    ensures { (result.count ≡ n) × (windowBars result ≡ take n (drop from bars.now)) }
+    requires { (from + n ≤ length bars.now) × (n ≤ reach_bars) }
+    ensures { (result.count ≡ n) × (window_bars result ≡ take n (drop from bars.now)) }
 {
     let mut count = 0usize;
     while count < n {
@@ -67,8 +67,8 @@ fn span_of(len: usize, di: usize, n: usize) -> Span
 
 // The last n bars up to the judged one.
 fn window_of(bars: &[Bar], di: usize, n: usize) -> Window
-    requires { n ≤ reachBars }
-    ensures { (result.count ≤ reachBars) × (windowBars result ≡ windowOf bars.now di n) }
+    requires { n ≤ reach_bars }
+    ensures { (result.count ≤ reach_bars) × (window_bars result ≡ window_of bars.now di n) }
 {
     let s = span_of(bars.len(), di, n);
     gathered(bars, s.from, s.count, no_prices())
@@ -76,8 +76,8 @@ fn window_of(bars: &[Bar], di: usize, n: usize) -> Window
 
 // The pair at an offset of a history of len bars, out of the judged bar's window and the gate's.
 fn pair_in(k: u32, t: Thresholds, len: usize, di: u32, w: Window, gate: Window) -> Pair
-    requires { (w.count ≤ reachBars) × (gate.count ≤ reachBars) }
-    ensures { result ≡ judgeOf k t len (up_to len di) (windowBars w) (windowBars gate) }
+    requires { (w.count ≤ reach_bars) × (gate.count ≤ reach_bars) }
+    ensures { result ≡ judge_of k t len (up_to len di) (window_bars w) (window_bars gate) }
 {
     let p = measures::up_to(len, di as usize);
     let w_prices = w.prices;
@@ -89,8 +89,8 @@ fn pair_in(k: u32, t: Thresholds, len: usize, di: u32, w: Window, gate: Window) 
 
 // The answer of a plain call over a history of len bars, out of those windows.
 fn answer(k: u32, di: u32, t: Thresholds, len: usize, w: Window, gate: Window) -> Answer
-    requires { (w.count ≤ reachBars) × (gate.count ≤ reachBars) }
-    ensures { result ≡ answerTo (plainVerdict k di t true len) (Labels (judgeOf k t len (up_to len di) (windowBars w) (windowBars gate))) }
+    requires { (w.count ≤ reach_bars) × (gate.count ≤ reach_bars) }
+    ensures { result ≡ answer_to (plain_verdict k di t true len) (Labels (judge_of k t len (up_to len di) (window_bars w) (window_bars gate))) }
 {
     match plain_verdict(k, di, t, true, len) {
         Verdict::Denied(why) => Answer::Refused(why),
@@ -100,8 +100,8 @@ fn answer(k: u32, di: u32, t: Thresholds, len: usize, w: Window, gate: Window) -
 
 // The plain call: as recognisers::recognise, which is lent prices. Records are whole bars, so that refusal 4 can't arise.
 pub fn recognise_bars(k: u32, di: u32, t: Thresholds, bars: &[Bar]) -> Answer
-    ensures { (result ≡ plainAnswer k di t true bars.now)
-        × ((refusalIn result ≡ plainNumber k di t true bars.now) × (codesIn result ≡ plainCodes k di t true bars.now)) }
+    ensures { (result ≡ plain_answer k di t true bars.now)
+        × ((refusal_in result ≡ plain_number k di t true bars.now) × (codes_in result ≡ plain_codes k di t true bars.now)) }
 {
     let w = window_of(bars, di as usize, counts::REACH_BARS);
     let gate = window_of(bars, counts::GATE_END, export::gate_bars(k));
@@ -128,8 +128,8 @@ pub extern "C" fn jcc_label_bars(
     th14: u32,
     bars: &[Bar],
 ) -> u32
-    ensures { result ≡ result_of (plainAnswer recogniser offset
-        (thresholdsOf th0 z2 th2 z3 th3 zdf5 th6 zdf7 th8 zf8 th10 th13 th14) true bars.now) }
+    ensures { result ≡ result_of (plain_answer recogniser offset
+        (thresholds_of th0 z2 th2 z3 th3 zdf5 th6 zdf7 th8 zf8 th10 th13 th14) true bars.now) }
 {
     let t = Thresholds::new(
         th0, z2, th2, z3, th3, zdf5, th6, zdf7, th8, zf8, th10, th13, th14,

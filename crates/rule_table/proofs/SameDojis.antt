@@ -2,18 +2,18 @@
 use Prim.Native.Nat.{ℕ, ◌*◌, ◌≤◌}
 use mathlib.Core.Path.{◌≡◌}
 use mathlib.Core.List.{List}
-use Rattle.measures.specs.Bar.{Bar, dojiOf}
-use Rattle.rule_types.specs.Number.{mostWhole}
-use Rattle.star_rules.specs.StarRule.{szx, sanSzx}
+use Rattle.measures.specs.Bar.{Bar, doji_of}
+use Rattle.rule_types.specs.Number.{most_whole}
+use Rattle.star_rules.specs.StarRule.{szx, san_szx}
 pub use Rattle.star_rules.proofs.Tenth.{tenth}
 use Rattle.thresholds.specs.declared.Thresholds.{Thresholds}
-use Rattle.rule_table.specs.Table.{seenWith, rows, tableRow, judgeBy, judgeOf, pair_at, szxIn01, sanSzxIn01}
+use Rattle.rule_table.specs.Table.{seen_with, rows, table_row, judge_by, judge_of, pair_at, szx_in01, san_szx_in01}
 
-module _ (k : ℕ) (h : k ≤ mostWhole) (t : Thresholds) (len : ℕ) (history : List Bar) (di : ℕ) where
-  pub same-13 : t.th13 ≡ 10 * k → pair_at 13 t len history di ≡ szxIn01 k len history di
-  unfolding pair_at judgeOf judgeBy tableRow rows seenWith szx dojiOf
+module _ (k : ℕ) (h : k ≤ most_whole) (t : Thresholds) (len : ℕ) (history : List Bar) (di : ℕ) where
+  pub same-13 : t.th13 ≡ 10 * k → pair_at 13 t len history di ≡ szx_in01 k len history di
+  unfolding pair_at judge_of judge_by table_row rows seen_with szx doji_of
   same-13 e = simp (e, tenth k h)
 
-  pub same-14 : t.th14 ≡ 10 * k → pair_at 14 t len history di ≡ sanSzxIn01 k len history di
-  unfolding pair_at judgeOf judgeBy tableRow rows seenWith sanSzx dojiOf
+  pub same-14 : t.th14 ≡ 10 * k → pair_at 14 t len history di ≡ san_szx_in01 k len history di
+  unfolding pair_at judge_of judge_by table_row rows seen_with san_szx doji_of
   same-14 e = simp (e, tenth k h)

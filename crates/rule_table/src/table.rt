@@ -1,9 +1,9 @@
 // The table of the eighteen: the choice of a recogniser by its number.
 ghost use Rattle.std.specs.Prelude.{◌≡◌, cond, ltb, leb, ◌<◌};
-ghost use Rattle.measures.specs.Bar.{barsOf};
-ghost use Rattle.rule_types.specs.Number.{recognisers, reachBars};
-ghost use Rattle.rule_table.specs.Table.{tableRow, seenWith, ruleBy, judgeBy, judgeOf, pair_at, pairWith, pairsWith};
-ghost use Rattle.rule_table.specs.TableSteps.{rulesBy, pairsBy, extremesFor};
+ghost use Rattle.measures.specs.Bar.{bars_of};
+ghost use Rattle.rule_types.specs.Number.{recognisers, reach_bars};
+ghost use Rattle.rule_table.specs.Table.{table_row, seen_with, rule_by, judge_by, judge_of, pair_at, pair_with, pairs_with};
+ghost use Rattle.rule_table.specs.TableSteps.{rules_by, pairs_by, extremes_for};
 
 use measures::{Extremes, back, price};
 use quarter_rules::{quarter_extremes, quarter_in};
@@ -23,7 +23,7 @@ const SHORT_IS_B: [bool; RECOGNISERS] = [
 // The short pair of recogniser k below the p given, else the rule's.
 fn row(k: usize, p: usize, full: Pair) -> Pair
     requires { k < recognisers }
-    ensures { result ≡ cond (ltb p (tableRow k).from) (tableRow k).short full }
+    ensures { result ≡ cond (ltb p (table_row k).from) (table_row k).short full }
 {
     let short = pick_pair(SHORT_IS_B[k], pair_b(), pair_a());
     pick_pair(p < FROM[k], short, full)
@@ -32,7 +32,7 @@ fn row(k: usize, p: usize, full: Pair) -> Pair
 // The rule of recogniser k over the window w that ends with the judged bar, with the extremes of the quarter; deep: 22 bars or more lie up
 // to it. The gate of 12 reads len and a window of its own. Past the table the pair is A.
 fn rule(k: u32, t: Thresholds, len: usize, deep: bool, e: Extremes, w: &[f64], gate: &[f64]) -> Pair
-    ensures { result ≡ ruleBy k t len deep (seenWith e (barsOf w.now)) (barsOf gate.now) }
+    ensures { result ≡ rule_by k t len deep (seen_with e (bars_of w.now)) (bars_of gate.now) }
 {
     let b1 = back(w, 1);
     let b2 = back(w, 2);
@@ -62,7 +62,7 @@ fn rule(k: u32, t: Thresholds, len: usize, deep: bool, e: Extremes, w: &[f64], g
 
 // The extremes that recogniser k reads: only 0, 1, 7, 8 and 15 read any, and for the others no bar is gone through.
 fn extremes_for(k: u32, w: &[f64]) -> Extremes
-    ensures { result ≡ extremesFor k (barsOf w.now) }
+    ensures { result ≡ extremes_for k (bars_of w.now) }
 {
     if (k == 0) | (k == 1) | (k == 7) | (k == 8) | (k == 15) {
         quarter_extremes(w)
@@ -84,7 +84,7 @@ fn judge_by(
     w: &[f64],
     gate: &[f64],
 ) -> Pair
-    ensures { result ≡ judgeBy k t len p (seenWith e (barsOf w.now)) (barsOf gate.now) }
+    ensures { result ≡ judge_by k t len p (seen_with e (bars_of w.now)) (bars_of gate.now) }
 {
     let full = rule(k, t, len, p >= REACH_BARS, e, w, gate);
     let i = k as usize;
@@ -97,14 +97,14 @@ fn judge_by(
 
 // Recogniser k over the window w that ends with the judged bar, of which p bars of the history lie up to it.
 pub fn judge(k: u32, t: Thresholds, len: usize, p: usize, w: &[f64], gate: &[f64]) -> Pair
-    ensures { result ≡ judgeOf k t len p (barsOf w.now) (barsOf gate.now) }
+    ensures { result ≡ judge_of k t len p (bars_of w.now) (bars_of gate.now) }
 {
     judge_by(k, t, len, p, extremes_for(k, w), w, gate)
 }
 
 // The pair of recogniser k at an offset of the lent bars, which are the newest of a history of len bars.
 pub fn pair_at(k: u32, t: Thresholds, len: usize, prices: &[f64], di: usize) -> Pair
-    ensures { result ≡ pair_at k t len (barsOf prices.now) di }
+    ensures { result ≡ pair_at k t len (bars_of prices.now) di }
 {
     let p = measures::up_to(len, di);
     let w = measures::last_bars(prices, di, REACH_BARS);
@@ -114,7 +114,7 @@ pub fn pair_at(k: u32, t: Thresholds, len: usize, prices: &[f64], di: usize) -> 
 
 // The pair of recogniser k at the newest of the lent bars, which are the newest of a history of len bars, with the extremes of the quarter.
 pub fn newest_pair(k: u32, t: Thresholds, len: usize, prices: &[f64], e: Extremes) -> Pair
-    ensures { result ≡ pairWith e k t len (barsOf prices.now) }
+    ensures { result ≡ pair_with e k t len (bars_of prices.now) }
 {
     let p = measures::up_to(len, 1);
     let w = measures::last_bars(prices, 1, REACH_BARS);
@@ -132,7 +132,7 @@ fn rules(
     w: &[f64],
     gate: &[f64],
 ) -> [Pair; RECOGNISERS]
-    ensures { result ≡ rulesBy t len deep (seenWith e (barsOf w.now)) (barsOf gate.now) }
+    ensures { result ≡ rules_by t len deep (seen_with e (bars_of w.now)) (bars_of gate.now) }
 {
     let b1 = back(w, 1);
     let b2 = back(w, 2);
@@ -168,7 +168,7 @@ fn rules(
 
 // The first row that may be short of its p: from 22 bars on none is.
 fn first_short(p: usize) -> usize
-    ensures { result ≡ cond (leb reachBars p) recognisers 0 }
+    ensures { result ≡ cond (leb reach_bars p) recognisers 0 }
 {
     if REACH_BARS <= p { RECOGNISERS } else { 0 }
 }
@@ -182,7 +182,7 @@ fn pairs(
     w: &[f64],
     gate: &[f64],
 ) -> [Pair; RECOGNISERS]
-    ensures { result ≡ pairsBy t len p (seenWith e (barsOf w.now)) (barsOf gate.now) }
+    ensures { result ≡ pairs_by t len p (seen_with e (bars_of w.now)) (bars_of gate.now) }
 {
     let full = rules(t, len, p >= REACH_BARS, e, w, gate);
     let mut pairs = full;
@@ -197,7 +197,7 @@ fn pairs(
 // The pairs of every recogniser at the newest of the lent bars, which are the newest of a history of len bars, with the extremes of the
 // quarter.
 pub fn newest_pairs(t: Thresholds, len: usize, prices: &[f64], e: Extremes) -> [Pair; RECOGNISERS]
-    ensures { result ≡ pairsWith e t len (barsOf prices.now) }
+    ensures { result ≡ pairs_with e t len (bars_of prices.now) }
 {
     let p = measures::up_to(len, 1);
     let w = measures::last_bars(prices, 1, REACH_BARS);

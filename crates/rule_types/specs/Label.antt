@@ -48,11 +48,11 @@ abbrev pub pair_of : Label → Label → Pair
 pair_of a b = record { v1 = a; v2 = b }
 
 -- A is 其他/其他, B is 其他/任意
-abbrev pub pairA : Pair
-pairA = pair_of Other Other
+abbrev pub pair_a : Pair
+pair_a = pair_of Other Other
 
-abbrev pub pairB : Pair
-pairB = pair_of Other Any
+abbrev pub pair_b : Pair
+pair_b = pair_of Other Any
 
 -- v1, then v2, of each pair, as codes
 unfoldable pub codes_of : List Pair → List ℕ

@@ -15,47 +15,47 @@ abbrev pub labels : ℕ
 labels = 38
 
 -- a sheet's row: two codes for each recogniser
-abbrev pub rowBytes : ℕ
-rowBytes = 2 * recognisers
+abbrev pub row_bytes : ℕ
+row_bytes = 2 * recognisers
 
 -- the recogniser whose gate reads len
 abbrev pub gated : ℕ
 gated = 12
 
 -- the newest bars up to the judged one that a rule can see; and the p from which the quarter holds
-abbrev pub reachBars : ℕ
-reachBars = 22
+abbrev pub reach_bars : ℕ
+reach_bars = 22
 
 -- the quarter's window
-abbrev pub quarterBars : ℕ
-quarterBars = 20
+abbrev pub quarter_bars : ℕ
+quarter_bars = 20
 
 -- the gate's bars end third from the newest, and it holds where len is above this
-abbrev pub gateEnd : ℕ
-gateEnd = 3
+abbrev pub gate_end : ℕ
+gate_end = 3
 
-abbrev pub gateAbove : ℕ
-gateAbove = 23
+abbrev pub gate_above : ℕ
+gate_above = 23
 
 -- the most bars of a history, and the greatest threshold that is whole, in units and in tenths
-abbrev pub mostBars : ℕ
-mostBars = 1000000
+abbrev pub most_bars : ℕ
+most_bars = 1000000
 
-abbrev pub mostWhole : ℕ
-mostWhole = 1000000
+abbrev pub most_whole : ℕ
+most_whole = 1000000
 
-abbrev pub mostTenths : ℕ
-mostTenths = 10000000
+abbrev pub most_tenths : ℕ
+most_tenths = 10000000
 
 -- the places of a box, the farthest offset of a look, the longest text line
 abbrev pub places : ℕ
 places = 64
 
-abbrev pub farthestLook : ℕ
-farthestLook = 43
+abbrev pub farthest_look : ℕ
+farthest_look = 43
 
-abbrev pub longestLine : ℕ
-longestLine = 80
+abbrev pub longest_line : ℕ
+longest_line = 80
 
 -- n numbers from k on
 unfoldable pub numbers : ℕ → ℕ → List ℕ
@@ -65,20 +65,20 @@ numbers (suc n) k = k ∷ numbers n (k + 1)
 -- ---- floats
 
 -- 0.02
-abbrev pub aFiftieth : Float
-aFiftieth = of_bits binary64 0x3f94_7ae1_47ae_147b
+abbrev pub a_fiftieth : Float
+a_fiftieth = of_bits binary64 0x3f94_7ae1_47ae_147b
 
 -- 0.1
-abbrev pub aTenth : Float
-aTenth = of_bits binary64 0x3fb9_9999_9999_999a
+abbrev pub a_tenth : Float
+a_tenth = of_bits binary64 0x3fb9_9999_9999_999a
 
 -- 0.2
-abbrev pub aFifth : Float
-aFifth = of_bits binary64 0x3fc9_9999_9999_999a
+abbrev pub a_fifth : Float
+a_fifth = of_bits binary64 0x3fc9_9999_9999_999a
 
 -- 0.5
-abbrev pub aHalf : Float
-aHalf = of_bits binary64 0x3fe0_0000_0000_0000
+abbrev pub a_half : Float
+a_half = of_bits binary64 0x3fe0_0000_0000_0000
 
 -- 1.0
 abbrev pub one : Float
@@ -93,16 +93,16 @@ abbrev pub three : Float
 three = of_bits binary64 0x4008_0000_0000_0000
 
 -- 100.0
-abbrev pub aHundred : Float
-aHundred = of_bits binary64 0x4059_0000_0000_0000
+abbrev pub a_hundred : Float
+a_hundred = of_bits binary64 0x4059_0000_0000_0000
 
 -- 10000.0
-abbrev pub tenThousand : Float
-tenThousand = of_bits binary64 0x40c3_8800_0000_0000
+abbrev pub ten_thousand : Float
+ten_thousand = of_bits binary64 0x40c3_8800_0000_0000
 
 -- 18446744073709551616.0, two to the power of 64
-abbrev pub beyondWhole : Float
-beyondWhole = of_bits binary64 0x43f0_0000_0000_0000
+abbrev pub beyond_whole : Float
+beyond_whole = of_bits binary64 0x43f0_0000_0000_0000
 
 -- a threshold that is a whole number, as a float
 abbrev pub whole_of : ℕ → Float

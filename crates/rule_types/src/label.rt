@@ -1,6 +1,6 @@
 // Labels and pairs of labels.
 ghost use Rattle.std.specs.Prelude.{◌≡◌, cond};
-ghost use Rattle.rule_types.specs.Label.{code_of, pairA, pairB};
+ghost use Rattle.rule_types.specs.Label.{code_of, pair_a, pair_b};
 
 // The 38 labels, in the order of their codes, each with the source's text.
 #[derive(Drop)]
@@ -106,7 +106,7 @@ pub fn pick_pair(c: bool, p: Pair, q: Pair) -> Pair
 
 // The short pairs: A is 其他/其他, B is 其他/任意.
 pub fn pair_a() -> Pair
-    ensures { result ≡ pairA }
+    ensures { result ≡ pair_a }
 {
     Pair {
         v1: Label::Other,
@@ -115,7 +115,7 @@ pub fn pair_a() -> Pair
 }
 
 pub fn pair_b() -> Pair
-    ensures { result ≡ pairB }
+    ensures { result ≡ pair_b }
 {
     Pair {
         v1: Label::Other,

@@ -3,11 +3,11 @@
 // comparison joins the two, so that a bar takes three comparisons a column, not twenty. All is proved, nothing is assumed, and no public
 // function has a `requires`: each contract is an equation with a definition of specs/, for every input.
 ghost use Rattle.std.specs.Prelude.{◌≡◌, [], ◌≤◌, length};
-ghost use Rattle.measures.specs.Bar.{barsOf};
-ghost use Rattle.measures.specs.Fold.{extremesOf};
-ghost use Rattle.rule_types.specs.Number.{quarterBars};
-ghost use Rattle.sliding_extremes.specs.WindowExtreme.{windowExtremes};
-ghost use Rattle.sliding_extremes.specs.WindowExtremeSteps.{withNewer, withOlder, nextOlder, joined, olderExtremes};
+ghost use Rattle.measures.specs.Bar.{bars_of};
+ghost use Rattle.measures.specs.Fold.{extremes_of};
+ghost use Rattle.rule_types.specs.Number.{quarter_bars};
+ghost use Rattle.sliding_extremes.specs.WindowExtreme.{window_extremes};
+ghost use Rattle.sliding_extremes.specs.WindowExtremeSteps.{with_newer, with_older, next_older, joined, older_extremes};
 
 use measures::{Bar, Extremes, bar_or_none, count, least, pick, price};
 use rule_types::counts::QUARTER_BARS;
@@ -21,7 +21,7 @@ pub struct WindowExtremes {
 
 // The extremes of no bar.
 fn no_bars() -> Extremes
-    ensures { result ≡ extremesOf [] }
+    ensures { result ≡ extremes_of [] }
 {
     Extremes {
         highest: price::minus_infinity(),
@@ -31,7 +31,7 @@ fn no_bars() -> Extremes
 
 // What comes later enters if it is beyond.
 fn with_newer(e: Extremes, high: f64, low: f64) -> Extremes
-    ensures { result ≡ withNewer e high low }
+    ensures { result ≡ with_newer e high low }
 {
     Extremes {
         highest: pick(high > e.highest, high, e.highest),
@@ -41,7 +41,7 @@ fn with_newer(e: Extremes, high: f64, low: f64) -> Extremes
 
 // An older bar enters if nothing is beyond it.
 fn with_older(e: Extremes, b: Bar) -> Extremes
-    ensures { result ≡ withOlder e b }
+    ensures { result ≡ with_older e b }
 {
     Extremes {
         highest: pick(b.high >= e.highest, b.high, e.highest),
@@ -51,7 +51,7 @@ fn with_older(e: Extremes, b: Bar) -> Extremes
 
 // The i-th bar before a place enters, if there is one.
 fn next_older(e: Extremes, prices: &[f64], at: usize, i: usize) -> Extremes
-    ensures { result ≡ nextOlder e (barsOf prices.now) at i }
+    ensures { result ≡ next_older e (bars_of prices.now) at i }
 {
     if i <= at {
         with_older(e, bar_or_none(prices, at - i))
@@ -62,9 +62,9 @@ fn next_older(e: Extremes, prices: &[f64], at: usize, i: usize) -> Extremes
 
 // The extremes of the 19 - k bars before a place come to stand in the k-th place.
 fn older(prices: &[f64], at: usize, highs: &mut [f64], lows: &mut [f64])
-    requires { (at ≤ length (barsOf prices.now)) × (length highs.old ≡ quarterBars) × (length lows.old ≡ quarterBars) }
-    ensures highs { highs.new ≡ (olderExtremes (barsOf prices.now) at).highs }
-    ensures lows { lows.new ≡ (olderExtremes (barsOf prices.now) at).lows }
+    requires { (at ≤ length (bars_of prices.now)) × (length highs.old ≡ quarter_bars) × (length lows.old ≡ quarter_bars) }
+    ensures highs { highs.new ≡ (older_extremes (bars_of prices.now) at).highs }
+    ensures lows { lows.new ≡ (older_extremes (bars_of prices.now) at).lows }
 {
     let mut e = no_bars();
     let mut i = 0usize;
@@ -97,9 +97,9 @@ fn join(inside: bool, high: f64, low: f64, newer: Extremes) -> Extremes
 
 // What stands in each place is joined with the extremes of the bars from the place at on, up to the bar of the place.
 fn newer(prices: &[f64], at: usize, highs: &mut [f64], lows: &mut [f64])
-    requires { (at ≤ length (barsOf prices.now)) × (highs.old ≡ (olderExtremes (barsOf prices.now) at).highs) × (lows.old ≡ (olderExtremes (barsOf prices.now) at).lows) }
-    ensures highs { highs.new ≡ (windowExtremes (barsOf prices.now) at).highs }
-    ensures lows { lows.new ≡ (windowExtremes (barsOf prices.now) at).lows }
+    requires { (at ≤ length (bars_of prices.now)) × (highs.old ≡ (older_extremes (bars_of prices.now) at).highs) × (lows.old ≡ (older_extremes (bars_of prices.now) at).lows) }
+    ensures highs { highs.new ≡ (window_extremes (bars_of prices.now) at).highs }
+    ensures lows { lows.new ≡ (window_extremes (bars_of prices.now) at).lows }
 {
     let n = count(prices);
     let mut e = no_bars();
@@ -117,7 +117,7 @@ fn newer(prices: &[f64], at: usize, highs: &mut [f64], lows: &mut [f64])
 // The extremes of the windows that end with the bars of a run from the place at on, twenty of them: in the k-th place those of the newest 20
 // bars up to the bar at + k, counted from 0, and the infinities where there is no such bar.
 pub fn window_extremes(prices: &[f64], at: usize) -> WindowExtremes
-    ensures { result ≡ windowExtremes (barsOf prices.now) at }
+    ensures { result ≡ window_extremes (bars_of prices.now) at }
 {
     let from = least(at, count(prices));
     let mut highs = [0.0; QUARTER_BARS];

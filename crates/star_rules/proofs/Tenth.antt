@@ -12,7 +12,7 @@ use lib.Ieee.Exact.{HasValue}
 use lib.Ieee.Fits.{down_pos}
 use lib.Ieee.Scale.{round_same}
 use Rattle.measures.specs.Price.{ten}
-use Rattle.rule_types.specs.Number.{mostWhole, whole_of}
+use Rattle.rule_types.specs.Number.{most_whole, whole_of}
 
 ten-is : ten ≡ fin false 5 (pos 1)
 unfolding of_bits
@@ -31,7 +31,7 @@ tenth-of k (fin false m e) v =
     round_same binary64 false _ (10 * down e) k 1 (mul-pos (lit< tt) (down_pos e)) (lit< tt) (mul-one _ ∙ v.1 ∙ tens k (down e))
 
 -- 10k is a float, since it is below two to the power of 53
-pub tenth : (k : ℕ) → k ≤ mostWhole → div binary64 (whole_of (10 * k)) ten ≡ whole_of k
+pub tenth : (k : ℕ) → k ≤ most_whole → div binary64 (whole_of (10 * k)) ten ≡ whole_of k
 unfolding of_int
 tenth k h =
     ap (λ (y : Float). div binary64 (whole_of (10 * k)) y) ten-is

@@ -2,8 +2,8 @@
 // All is proved, nothing is assumed, and no public function has a `requires`: each contract is an equation with a definition of specs/,
 // for every input.
 ghost use Rattle.std.specs.Prelude.{◌≡◌, cond, ◌≤◌};
-ghost use Rattle.measures.specs.Bar.{dojiOf};
-ghost use Rattle.star_rules.specs.StarRule.{starBodies, morningOf, eveningOf, xingXian, dojiKind, northernOf, szx as szxOf, sanSzx};
+ghost use Rattle.measures.specs.Bar.{doji_of};
+ghost use Rattle.star_rules.specs.StarRule.{star_bodies, morning_of, evening_of, xing_xian, doji_kind, northern_of, szx as szxOf, san_szx};
 
 use measures::Bar;
 use rule_types::label::{Label, Pair, pick};
@@ -12,7 +12,7 @@ use rule_types::label::{Label, Pair, pick};
 
 // A middle body below the th-th part of the first, and the first below the sum of the others.
 fn has_star_bodies(th: u32, b1: Bar, b2: Bar, b3: Bar) -> bool
-    ensures { result ≡ starBodies th b1 b2 b3 }
+    ensures { result ≡ star_bodies th b1 b2 b3 }
 {
     let x2 = measures::body(b2);
     let x3 = measures::body(b3);
@@ -20,7 +20,7 @@ fn has_star_bodies(th: u32, b1: Bar, b2: Bar, b3: Bar) -> bool
 }
 
 fn is_morning(th: u32, b1: Bar, b2: Bar, b3: Bar) -> bool
-    ensures { result ≡ morningOf th b1 b2 b3 }
+    ensures { result ≡ morning_of th b1 b2 b3 }
 {
     (b3.high > b2.high)
         & (b2.high < b1.high)
@@ -33,7 +33,7 @@ fn is_morning(th: u32, b1: Bar, b2: Bar, b3: Bar) -> bool
 }
 
 fn is_evening(th: u32, b1: Bar, b2: Bar, b3: Bar) -> bool
-    ensures { result ≡ eveningOf th b1 b2 b3 }
+    ensures { result ≡ evening_of th b1 b2 b3 }
 {
     (b3.high < b2.high)
         & (b2.high > b1.high)
@@ -46,7 +46,7 @@ fn is_evening(th: u32, b1: Bar, b2: Bar, b3: Bar) -> bool
 }
 
 pub fn xing_xian(th: u32, b1: Bar, b2: Bar, b3: Bar) -> Pair
-    ensures { result ≡ xingXian th b1 b2 b3 }
+    ensures { result ≡ xing_xian th b1 b2 b3 }
 {
     let evening = pick(is_evening(th, b1, b2, b3), Label::EveningStar, Label::Other);
     Pair {
@@ -58,7 +58,7 @@ pub fn xing_xian(th: u32, b1: Bar, b2: Bar, b3: Bar) -> Pair
 // 13: szx; its th, and that of 14, counts tenths, which the doji test divides.
 
 fn doji_kind(b1: Bar, b2: Bar) -> Label
-    ensures { result ≡ dojiKind b1 b2 }
+    ensures { result ≡ doji_kind b1 b2 }
 {
     let up = measures::upper(b1);
     let down = measures::lower(b1);
@@ -77,7 +77,7 @@ fn doji_kind(b1: Bar, b2: Bar) -> Label
 }
 
 fn is_northern(b: Bar) -> bool
-    ensures { result ≡ northernOf b }
+    ensures { result ≡ northern_of b }
 {
     (b.close > b.open) & (measures::body(b) > (measures::upper(b) + measures::lower(b)) * 3.0)
 }
@@ -96,14 +96,14 @@ pub fn szx(th: u32, b1: Bar, b2: Bar) -> Pair
 
 // 1 for a doji, else 0.
 fn doji_one(th: f64, b: Bar) -> u32
-    ensures { (result ≡ cond (dojiOf th b) 1 0) × (result ≤ 1) }
+    ensures { (result ≡ cond (doji_of th b) 1 0) × (result ≤ 1) }
 {
     let doji = measures::is_doji(b, th);
     if doji { 1 } else { 0 }
 }
 
 pub fn san_szx(th: u32, b1: Bar, b2: Bar, b3: Bar, b4: Bar, b5: Bar) -> Pair
-    ensures { result ≡ sanSzx th b1 b2 b3 b4 b5 }
+    ensures { result ≡ san_szx th b1 b2 b3 b4 b5 }
 {
     let x = th as f64;
     let found = doji_one(x, b5)

@@ -9,7 +9,7 @@ use borrow.Author.Tests.{eqb-true, eq-eqb, ne_eqb, eqb-false}
 use lib.Dec.{eqb}
 use lib.ListN.{length, get_or}
 use Rattle.tallies.specs.declared.table.TallyRow.{TallyRow}
-use Rattle.tallies.specs.Tally.{rowOfCounts, countsOf, total_of, addsUp, byPlace, gainRow, gained}
+use Rattle.tallies.specs.Tally.{row_of_counts, counts_of, total_of, adds_up, by_place, gain_row, gained}
 use Rattle.tallies.proofs.PlaceLaws.{at_place, same-places, place-place, places-kept, places-past}
 
 -- what holds of the numbers below n, and of n, holds of those below n + 1
@@ -36,8 +36,8 @@ cell-total (x ∷ counts) (suc c) = omega (arith, cell-total counts c)
 
 -- ---- whether each row adds up to n
 
-pub adds-snoc : (n : ℕ) (tally : List TallyRow) (row : TallyRow) → addsUp n (tally ++ (row ∷ [])) ≡ (addsUp n tally && eqb (total_of row.counts) n)
-unfolding addsUp
+pub adds-snoc : (n : ℕ) (tally : List TallyRow) (row : TallyRow) → adds_up n (tally ++ (row ∷ [])) ≡ (adds_up n tally && eqb (total_of row.counts) n)
+unfolding adds_up
 adds-snoc n [] row = go (eqb (total_of row.counts) n)
   where
     go : (t : Bool) → (t && true) ≡ t
@@ -45,70 +45,70 @@ adds-snoc n [] row = go (eqb (total_of row.counts) n)
     go false = refl
 adds-snoc n (x ∷ tally) row = go (eqb (total_of x.counts) n) (adds-snoc n tally row)
   where
-    go : (t : Bool) → addsUp n (tally ++ (row ∷ [])) ≡ (addsUp n tally && eqb (total_of row.counts) n)
-        → (t && addsUp n (tally ++ (row ∷ []))) ≡ ((t && addsUp n tally) && eqb (total_of row.counts) n)
+    go : (t : Bool) → adds_up n (tally ++ (row ∷ [])) ≡ (adds_up n tally && eqb (total_of row.counts) n)
+        → (t && adds_up n (tally ++ (row ∷ []))) ≡ ((t && adds_up n tally) && eqb (total_of row.counts) n)
     go true e = e
     go false e = refl
 
-pub row-adds : (n : ℕ) (tally : List TallyRow) → addsUp n tally ≡ true → (k : ℕ) → k < length tally → total_of (countsOf tally k) ≡ n
-unfolding addsUp
+pub row-adds : (n : ℕ) (tally : List TallyRow) → adds_up n tally ≡ true → (k : ℕ) → k < length tally → total_of (counts_of tally k) ≡ n
+unfolding adds_up
 row-adds n [] e k h = absurd (not-suc-le-zero h)
-row-adds n (row ∷ tally) e zero h = eqb-true _ _ ((and-eq-true_iff (eqb (total_of row.counts) n) (addsUp n tally)).0 e).0
-row-adds n (row ∷ tally) e (suc k) h = row-adds n tally ((and-eq-true_iff (eqb (total_of row.counts) n) (addsUp n tally)).0 e).1 k (omega arith)
+row-adds n (row ∷ tally) e zero h = eqb-true _ _ ((and-eq-true_iff (eqb (total_of row.counts) n) (adds_up n tally)).0 e).0
+row-adds n (row ∷ tally) e (suc k) h = row-adds n tally ((and-eq-true_iff (eqb (total_of row.counts) n) (adds_up n tally)).0 e).1 k (omega arith)
 
-pub rows-add : (n : ℕ) (tally : List TallyRow) → ((k : ℕ) → k < length tally → total_of (countsOf tally k) ≡ n) → addsUp n tally ≡ true
-unfolding addsUp
+pub rows-add : (n : ℕ) (tally : List TallyRow) → ((k : ℕ) → k < length tally → total_of (counts_of tally k) ≡ n) → adds_up n tally ≡ true
+unfolding adds_up
 rows-add n [] each = refl
 rows-add n (row ∷ tally) each = rw (eq-eqb _ _ (each 0 (omega arith)), rows-add n tally (λ k h. each (suc k) (omega arith)))
 
 -- ---- gains
 
 -- one gain after the other
-pub gain-gain : (f g : ℕ → ℕ) (counts : List ℕ) → gainRow g (gainRow f counts) ≡ gainRow (λ c. f c + g c) counts
+pub gain-gain : (f g : ℕ → ℕ) (counts : List ℕ) → gain_row g (gain_row f counts) ≡ gain_row (λ c. f c + g c) counts
 gain-gain f g counts =
     place-place (λ c count. count + f c) (λ c count. count + g c) 0 counts
     ∙ same-places (λ c count. count + f c + g c) (λ c count. count + (f c + g c)) 0 0 counts (λ c h. add_assoc (get_or counts c 0) (f (0 + c)) (g (0 + c)))
 
 -- no gain
-pub gain-none : (counts : List ℕ) → gainRow (λ c. 0) counts ≡ counts
+pub gain-none : (counts : List ℕ) → gain_row (λ c. 0) counts ≡ counts
 gain-none counts = places-kept (λ c count. count + 0) 0 counts (λ c x. add-zero x)
 
 -- a row that gains one at one of its codes adds up to one more
-ones : (v c : ℕ) (counts : List ℕ) → c ≤ v → v < c + length counts → total_of (byPlace (λ i count. count + cond (eqb v i) 1 0) c counts) ≡ total_of counts + 1
-unfolding byPlace total_of
+ones : (v c : ℕ) (counts : List ℕ) → c ≤ v → v < c + length counts → total_of (by_place (λ i count. count + cond (eqb v i) 1 0) c counts) ≡ total_of counts + 1
+unfolding by_place total_of
 ones v c [] from below = absurd (let z : ⊥ = omega arith in z)
 ones v c (x ∷ counts) from below = go (eqb v c) refl (λ later. ones v (c + 1) counts later (omega arith))
   where
-    go : (t : Bool) → eqb v c ≡ t → (c + 1 ≤ v → total_of (byPlace (λ i count. count + cond (eqb v i) 1 0) (c + 1) counts) ≡ total_of counts + 1)
-        → x + cond t 1 0 + total_of (byPlace (λ i count. count + cond (eqb v i) 1 0) (c + 1) counts) ≡ x + total_of counts + 1
+    go : (t : Bool) → eqb v c ≡ t → (c + 1 ≤ v → total_of (by_place (λ i count. count + cond (eqb v i) 1 0) (c + 1) counts) ≡ total_of counts + 1)
+        → x + cond t 1 0 + total_of (by_place (λ i count. count + cond (eqb v i) 1 0) (c + 1) counts) ≡ x + total_of counts + 1
     go true e rest =
         let is : v ≡ c = eqb-true v c e in
         let past : (i count : ℕ) → c + 1 ≤ i → count + cond (eqb v i) 1 0 ≡ count = λ i count h. rw (ne_eqb v i (λ e. omega arith)) (add-zero count) in
         rw (places-past (λ i count. count + cond (eqb v i) 1 0) (c + 1) counts past) (omega arith)
     go false e rest = let other = eqb-false v c e in omega (arith, rest (omega arith))
 
-pub total-one : (v : ℕ) (counts : List ℕ) → v < length counts → total_of (gainRow (λ c. cond (eqb v c) 1 0) counts) ≡ total_of counts + 1
+pub total-one : (v : ℕ) (counts : List ℕ) → v < length counts → total_of (gain_row (λ c. cond (eqb v c) 1 0) counts) ≡ total_of counts + 1
 total-one v counts below = ones v 0 counts (omega arith) (omega arith)
 
 -- ---- the same of a table
 
 -- the counts of a recogniser
-pub counts-gained : (more : ℕ → ℕ → ℕ) (tally : List TallyRow) (k : ℕ) → k < length tally → countsOf (gained more tally) k ≡ gainRow (more k) (countsOf tally k)
+pub counts-gained : (more : ℕ → ℕ → ℕ) (tally : List TallyRow) (k : ℕ) → k < length tally → counts_of (gained more tally) k ≡ gain_row (more k) (counts_of tally k)
 counts-gained more tally k h =
     let from_first : 0 + k ≡ k = omega arith in
-    ap (λ (row : TallyRow). row.counts) (at_place (λ k row. rowOfCounts (gainRow (more k) row.counts)) 0 tally k (rowOfCounts []) h) ∙ rw from_first
+    ap (λ (row : TallyRow). row.counts) (at_place (λ k row. row_of_counts (gain_row (more k) row.counts)) 0 tally k (row_of_counts []) h) ∙ rw from_first
 
 -- the same numbers give the same table
-pub gained-same : (f g : ℕ → ℕ → ℕ) (tally : List TallyRow) → ((k c : ℕ) → k < length tally → c < length (countsOf tally k) → f k c ≡ g k c) → gained f tally ≡ gained g tally
+pub gained-same : (f g : ℕ → ℕ → ℕ) (tally : List TallyRow) → ((k c : ℕ) → k < length tally → c < length (counts_of tally k) → f k c ≡ g k c) → gained f tally ≡ gained g tally
 gained-same f g tally same =
-    same-places (λ k row. rowOfCounts (gainRow (f k) row.counts)) (λ k row. rowOfCounts (gainRow (g k) row.counts)) (rowOfCounts []) 0 tally (λ k h.
+    same-places (λ k row. row_of_counts (gain_row (f k) row.counts)) (λ k row. row_of_counts (gain_row (g k) row.counts)) (row_of_counts []) 0 tally (λ k h.
     let from_first : 0 + k ≡ k = omega arith in
-    let row : gainRow (f k) (countsOf tally k) ≡ gainRow (g k) (countsOf tally k) =
-    same-places (λ c count. count + f k c) (λ c count. count + g k c) 0 0 (countsOf tally k) (λ c w. let from : 0 + c ≡ c = omega arith in rw (from, same k c h w)) in
+    let row : gain_row (f k) (counts_of tally k) ≡ gain_row (g k) (counts_of tally k) =
+    same-places (λ c count. count + f k c) (λ c count. count + g k c) 0 0 (counts_of tally k) (λ c w. let from : 0 + c ≡ c = omega arith in rw (from, same k c h w)) in
     rw (from_first, row))
 
 pub gained-gained : (f g : ℕ → ℕ → ℕ) (tally : List TallyRow) → gained g (gained f tally) ≡ gained (λ k c. f k c + g k c) tally
 gained-gained f g tally =
-    place-place (λ k row. rowOfCounts (gainRow (f k) row.counts)) (λ k row. rowOfCounts (gainRow (g k) row.counts)) 0 tally
-    ∙ same-places (λ k row. rowOfCounts (gainRow (g k) (gainRow (f k) row.counts))) (λ k row. rowOfCounts (gainRow (λ c. f k c + g k c) row.counts)) (rowOfCounts []) 0 tally
-    (λ k h. rw (gain-gain (f (0 + k)) (g (0 + k)) (countsOf tally k)))
+    place-place (λ k row. row_of_counts (gain_row (f k) row.counts)) (λ k row. row_of_counts (gain_row (g k) row.counts)) 0 tally
+    ∙ same-places (λ k row. row_of_counts (gain_row (g k) (gain_row (f k) row.counts))) (λ k row. row_of_counts (gain_row (λ c. f k c + g k c) row.counts)) (row_of_counts []) 0 tally
+    (λ k h. rw (gain-gain (f (0 + k)) (g (0 + k)) (counts_of tally k)))

@@ -3,33 +3,33 @@ use Rattle.std.specs.Prelude.{ℕ, Bool, not, List, [], ◌∷◌, length, Float
 use Rattle.recognisers.specs.Threshold.{Thresholds}
 use Rattle.answers.specs.declared.refusals.Refusal.TheVariants.{TooManyBars}
 use Rattle.answers.specs.declared.refusals.Verdict.{Verdict}
-use Rattle.recognisers.specs.Refusal.{Tried, tried, firstTrue, nextAfter, leaves, feedTried}
+use Rattle.recognisers.specs.Refusal.{Tried, tried, first_true, next_after, leaves, feed_tried}
 use Rattle.box_record.specs.declared.boxes.BarBox.{BarBox}
-use Rattle.bar_box.specs.Box.{isRight, sheetOf}
-use Rattle.bar_box.specs.History.{Feed, fed, rowsIn}
+use Rattle.bar_box.specs.Box.{is_right, sheet_of}
+use Rattle.bar_box.specs.History.{Feed, fed, rows_in}
 use Rattle.tallies.specs.declared.table.TallyRow.{TallyRow}
 use Rattle.tallies.specs.declared.feeds.Tallied.{Tallied}
-use Rattle.tallies.specs.Tally.{addsUp, counted}
+use Rattle.tallies.specs.Tally.{adds_up, counted}
 
 -- what a feed is lent
 abbrev pub lent : List Float → List ℕ → Feed
 lent prices sheet = record { prices = prices; sheet = sheet }
 
 -- 5 also covers a tally with a row that doesn't add up to the box's N.
-abbrev pub wrongTally : ℕ → List TallyRow → Tried
-wrongTally n tally = tried (not (addsUp n tally)) TooManyBars
+abbrev pub wrong_tally : ℕ → List TallyRow → Tried
+wrong_tally n tally = tried (not (adds_up n tally)) TooManyBars
 
 -- otherwise it tries what a feed does
-unfoldable pub tallyVerdict : Thresholds → ℕ → Bool → List TallyRow → ℕ → ℕ → Verdict
-tallyVerdict t n right tally prices sheet = firstTrue (nextAfter TooManyBars (wrongTally n tally ∷ []) (feedTried t n right prices sheet))
+unfoldable pub tally_verdict : Thresholds → ℕ → Bool → List TallyRow → ℕ → ℕ → Verdict
+tally_verdict t n right tally prices sheet = first_true (next_after TooManyBars (wrong_tally n tally ∷ []) (feed_tried t n right prices sheet))
 
-abbrev pub verdictWith : BarBox → List TallyRow → Feed → Verdict
-verdictWith b tally f = tallyVerdict b.thresholds b.count (isRight b) tally (length f.prices) (length f.sheet)
+abbrev pub verdict_with : BarBox → List TallyRow → Feed → Verdict
+verdict_with b tally f = tally_verdict b.thresholds b.count (is_right b) tally (length f.prices) (length f.sheet)
 
 -- box and sheet are those of a feed, and its rows are counted; a refusal leaves box, tally and sheet as they were
-unfoldable pub talliedOf : BarBox → List TallyRow → Feed → Tallied
-talliedOf b tally f =
-    let v = verdictWith b tally f in record { verdict = v; after = leaves v b (fed b f).after; tally = leaves v tally (counted (rowsIn b f) tally) }
+unfoldable pub tallied_of : BarBox → List TallyRow → Feed → Tallied
+tallied_of b tally f =
+    let v = verdict_with b tally f in record { verdict = v; after = leaves v b (fed b f).after; tally = leaves v tally (counted (rows_in b f) tally) }
 
-unfoldable pub talliedSheet : BarBox → List TallyRow → Feed → List ℕ
-talliedSheet b tally f = leaves (verdictWith b tally f) f.sheet (sheetOf b f.prices f.sheet)
+unfoldable pub tallied_sheet : BarBox → List TallyRow → Feed → List ℕ
+tallied_sheet b tally f = leaves (verdict_with b tally f) f.sheet (sheet_of b f.prices f.sheet)

@@ -1,8 +1,8 @@
 // A feed with a tally.
 ghost use Rattle.std.specs.Prelude.{◌≡◌};
-ghost use Rattle.recognisers.specs.Refusal.{verdictNumber};
+ghost use Rattle.recognisers.specs.Refusal.{verdict_number};
 ghost use Rattle.tallies.specs.Tally.{Shaped};
-ghost use Rattle.tallies.specs.Feed.{lent, tallyVerdict, verdictWith, talliedOf, talliedSheet};
+ghost use Rattle.tallies.specs.Feed.{lent, tally_verdict, verdict_with, tallied_of, tallied_sheet};
 
 use crate::table::TallyRow;
 use crate::{counts, table};
@@ -29,7 +29,7 @@ pub fn tally_verdict(
     prices: usize,
     sheet: usize,
 ) -> Verdict
-    ensures { (result ≡ tallyVerdict t n right tally prices sheet) × (Shaped tally) }
+    ensures { (result ≡ tally_verdict t n right tally prices sheet) × (Shaped tally) }
 {
     let sums = table::adds_up(tally, n);
     checked(t, true, n, prices, true, sums & right, sheet)
@@ -37,8 +37,8 @@ pub fn tally_verdict(
 
 // Takes the lent bars in, writes a row for each and counts it, or refuses and leaves box, tally and sheet as they were.
 pub fn feed(b: BarBox, tally: [TallyRow; RECOGNISERS], prices: &[f64], sheet: &mut [u8]) -> Tallied
-    ensures { (result ≡ talliedOf b tally (lent prices.now sheet.old)) × (sheet.new ≡ talliedSheet b tally (lent prices.now sheet.old)) × (Shaped tally)
-        × (verdictNumber result.verdict ≡ verdictNumber (verdictWith b tally (lent prices.now sheet.old))) }
+    ensures { (result ≡ tallied_of b tally (lent prices.now sheet.old)) × (sheet.new ≡ tallied_sheet b tally (lent prices.now sheet.old)) × (Shaped tally)
+        × (verdict_number result.verdict ≡ verdict_number (verdict_with b tally (lent prices.now sheet.old))) }
 {
     let t = b.thresholds;
     let n = b.count;

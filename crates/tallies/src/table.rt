@@ -1,7 +1,7 @@
 // The table: eighteen rows, one for each recogniser, and thirty-eight columns, one for each label, by its code.
 ghost use Rattle.std.specs.Prelude.{◌≡◌, ◌≤◌, length};
 ghost use Rattle.recognisers.specs.Number.{labels};
-ghost use Rattle.tallies.specs.Tally.{freshTally, Shaped, total_of, addsUp};
+ghost use Rattle.tallies.specs.Tally.{fresh_tally, Shaped, total_of, adds_up};
 
 use recognisers::counts::{LABELS, RECOGNISERS};
 
@@ -13,7 +13,7 @@ pub struct TallyRow {
 
 // Before the first bar.
 pub fn fresh() -> [TallyRow; RECOGNISERS]
-    ensures { result ≡ freshTally }
+    ensures { result ≡ fresh_tally }
 {
     let zeros = TallyRow {
         counts: [0; LABELS],
@@ -44,7 +44,7 @@ pub(crate) fn total(row: TallyRow) -> u64
 
 // Whether each row adds up to n.
 pub(crate) fn adds_up(tally: [TallyRow; RECOGNISERS], n: u32) -> bool
-    ensures { (result ≡ addsUp n tally) × (Shaped tally) }
+    ensures { (result ≡ adds_up n tally) × (Shaped tally) }
 {
     let mut all = true;
     let mut k = 0usize;

@@ -8,116 +8,116 @@ use native.Mathlib.Omega.{arith}
 use borrow.Author.Tests.{eq-eqb, le-ltb}
 use lib.ListN.{length}
 use lib.Ieee.{Float}
-use Rattle.measures.specs.Bar.{Bar, barsOf, pricesOf}
+use Rattle.measures.specs.Bar.{Bar, bars_of, prices_of}
 use Rattle.answers.specs.declared.refusals.Refusal.{Refusal}
 use Rattle.answers.specs.declared.refusals.Verdict.{Verdict, TheVariants.Accepted, TheVariants.Denied}
-use Rattle.recognisers.specs.Number.{rowBytes, mostBars, places}
-use Rattle.recognisers.specs.Refusal.{badThreshold, tooManyBars, wrongBox, firstTrue, nextAfter, feedTried}
+use Rattle.recognisers.specs.Number.{row_bytes, most_bars, places}
+use Rattle.recognisers.specs.Refusal.{bad_threshold, too_many_bars, wrong_box, first_true, next_after, feed_tried}
 use Rattle.recognisers.specs.Threshold.{valid_of}
 use Rattle.box_record.specs.declared.boxes.BarBox.{BarBox}
-use Rattle.bar_box.specs.Box.{numbered, held, isRight, takenIn}
+use Rattle.bar_box.specs.Box.{numbered, held, is_right, taken_in}
 use Rattle.bar_box.proofs.BoxLaws.{length-laid, taken-append, right-taken}
 use Rattle.bar_box.proofs.FeedSteps.{fits}
 use Rattle.tallies.specs.declared.table.TallyRow.{TallyRow}
 use Rattle.tallies.specs.declared.feeds.Tallied.{Tallied}
-use Rattle.tallies.specs.Tally.{Shaped, addsUp, counted}
-use Rattle.tallies.specs.Feed.{lent, wrongTally, tallyVerdict, verdictWith, talliedOf}
+use Rattle.tallies.specs.Tally.{Shaped, adds_up, counted}
+use Rattle.tallies.specs.Feed.{lent, wrong_tally, tally_verdict, verdict_with, tallied_of}
 use Rattle.tallies.proofs.RowLaws.{counted-shaped}
 use Rattle.tallies.proofs.FeedLaws.{accepted-adds, accepted-plain, tallied-refused, tallied-accepted}
 use Rattle.tallies.proofs.PartLaws.{rows_from, parts_add, parts-counted}
-use Rattle.tally_lines.specs.Session.{barFeed, fedAll}
+use Rattle.tally_lines.specs.Session.{bar_feed, fed_all}
 
 -- ---- the verdict of so many whole bars on a sheet that is long enough
-abbrev verdictFor : BarBox → List TallyRow → ℕ → Verdict
-verdictFor b tally n = firstTrue (badThreshold b.thresholds ∷ tooManyBars (b.count + n) ∷ wrongTally b.count tally ∷ wrongBox (isRight b) ∷ [])
+abbrev verdict_for : BarBox → List TallyRow → ℕ → Verdict
+verdict_for b tally n = first_true (bad_threshold b.thresholds ∷ too_many_bars (b.count + n) ∷ wrong_tally b.count tally ∷ wrong_box (is_right b) ∷ [])
 
 module _ (b : BarBox) (tally : List TallyRow) where
-  verdict-bars : (n prices sheet : ℕ) → prices ≡ 4 * n → rowBytes * n ≤ sheet → tallyVerdict b.thresholds b.count (isRight b) tally prices sheet ≡ verdictFor b tally n
-  unfolding tallyVerdict feedTried nextAfter firstTrue
+  verdict-bars : (n prices sheet : ℕ) → prices ≡ 4 * n → row_bytes * n ≤ sheet → tally_verdict b.thresholds b.count (is_right b) tally prices sheet ≡ verdict_for b tally n
+  unfolding tally_verdict feed_tried next_after first_true
   verdict-bars n prices sheet is room =
       let whole : prices % 4 ≡ 0 = omega arith in
       let bars : prices / 4 ≡ n = omega arith in
-      rw (eq-eqb (prices % 4) 0 whole, bars, le-ltb sheet (rowBytes * n) room)
+      rw (eq-eqb (prices % 4) 0 whole, bars, le-ltb sheet (row_bytes * n) room)
 
-  one-verdict : (bar : Bar) → verdictWith b tally (barFeed bar) ≡ verdictFor b tally 1
-  unfolding pricesOf
-  one-verdict bar = verdict-bars 1 4 rowBytes refl (omega arith)
+  one-verdict : (bar : Bar) → verdict_with b tally (bar_feed bar) ≡ verdict_for b tally 1
+  unfolding prices_of
+  one-verdict bar = verdict-bars 1 4 row_bytes refl (omega arith)
 
   -- the first bar alone is refused as all are, if there is room for all or it is the only one
-  same-verdict : (n : ℕ) → 1 ≤ n → (1 < n → b.count + n ≤ mostBars) → verdictFor b tally 1 ≡ verdictFor b tally n
-  unfolding firstTrue
+  same-verdict : (n : ℕ) → 1 ≤ n → (1 < n → b.count + n ≤ most_bars) → verdict_for b tally 1 ≡ verdict_for b tally n
+  unfolding first_true
   same-verdict n some few =
       elim (dec_le 2 n) [
-        | yes more ↦ (let all = few more in rw (le-ltb mostBars (b.count + 1) (omega arith), le-ltb mostBars (b.count + n) all))
+        | yes more ↦ (let all = few more in rw (le-ltb most_bars (b.count + 1) (omega arith), le-ltb most_bars (b.count + n) all))
         | no alone ↦ (let one : n ≡ 1 = omega arith in rw one)
       ]
 
 -- ---- accepted bars
 
 -- what they leave
-abbrev allTaken : BarBox → List TallyRow → List Bar → Tallied
-allTaken b tally bars = record { verdict = Accepted; after = takenIn b bars; tally = counted (rows_from b bars) tally }
+abbrev all_taken : BarBox → List TallyRow → List Bar → Tallied
+all_taken b tally bars = record { verdict = Accepted; after = taken_in b bars; tally = counted (rows_from b bars) tally }
 
 -- none of the refusals that concern so many bars is true
 record Fit (b : BarBox) (tally : List TallyRow) (n : ℕ) : Type 0 where
   valid : valid_of b.thresholds ≡ true
-  few : b.count + n ≤ mostBars
-  adds : addsUp b.count tally ≡ true
-  right : isRight b ≡ true
+  few : b.count + n ≤ most_bars
+  adds : adds_up b.count tally ≡ true
+  right : is_right b ≡ true
 
-fit-accepted : (b : BarBox) (tally : List TallyRow) (n : ℕ) → Fit b tally n → verdictFor b tally n ≡ Accepted
-unfolding firstTrue
-fit-accepted b tally n f = rw (f.valid, le-ltb mostBars (b.count + n) f.few, f.adds, f.right)
+fit-accepted : (b : BarBox) (tally : List TallyRow) (n : ℕ) → Fit b tally n → verdict_for b tally n ≡ Accepted
+unfolding first_true
+fit-accepted b tally n f = rw (f.valid, le-ltb most_bars (b.count + n) f.few, f.adds, f.right)
 
-one-taken : (b : BarBox) (tally : List TallyRow) (bar : Bar) → verdictFor b tally 1 ≡ Accepted → talliedOf b tally (barFeed bar) ≡ allTaken b tally (bar ∷ [])
-unfolding barsOf pricesOf
-one-taken b tally bar e = tallied-accepted b tally (barFeed bar) (one-verdict b tally bar ∙ e)
+one-taken : (b : BarBox) (tally : List TallyRow) (bar : Bar) → verdict_for b tally 1 ≡ Accepted → tallied_of b tally (bar_feed bar) ≡ all_taken b tally (bar ∷ [])
+unfolding bars_of prices_of
+one-taken b tally bar e = tallied-accepted b tally (bar_feed bar) (one-verdict b tally bar ∙ e)
 
 all-fed : (b : BarBox) → length b.bars ≡ places → (tally : List TallyRow) → Shaped tally → (bar : Bar) (bars : List Bar) → Fit b tally (suc (length bars))
-    → fedAll b tally (bar ∷ bars) ≡ allTaken b tally (bar ∷ bars)
-unfolding fedAll
+    → fed_all b tally (bar ∷ bars) ≡ all_taken b tally (bar ∷ bars)
+unfolding fed_all
 all-fed b all tally shaped bar [] f = rw (one-taken b tally bar (fit-accepted b tally 1 f))
 all-fed b all tally shaped bar (next ∷ bars) f =
     let first = bar ∷ [] in
     let count = f.few in
     let one : Fit b tally 1 = record { valid = f.valid; few = omega arith; adds = f.adds; right = f.right } in
-    let rest : Fit (takenIn b first) (counted (rows_from b first) tally) (suc (length bars)) =
+    let rest : Fit (taken_in b first) (counted (rows_from b first) tally) (suc (length bars)) =
     record { valid = f.valid; few = omega arith; adds = parts_add b all tally shaped first f.adds; right = right-taken b all f.right first } in
-    let later = all-fed (takenIn b first) (length-laid b.bars (held b ++ numbered b.count first) all) (counted (rows_from b first) tally) (counted-shaped tally shaped (rows_from b first)) next bars rest in
+    let later = all-fed (taken_in b first) (length-laid b.bars (held b ++ numbered b.count first) all) (counted (rows_from b first) tally) (counted-shaped tally shaped (rows_from b first)) next bars rest in
     rw (one-taken b tally bar (fit-accepted b tally 1 one), later, taken-append b all first (next ∷ bars), parts-counted b all tally shaped first (next ∷ bars))
 
 -- ---- refused ones: the first of them is, and no more is fed
-first-refused : (b : BarBox) (tally : List TallyRow) (bar : Bar) (bars : List Bar) (r : Refusal) → talliedOf b tally (barFeed bar) ≡ record { verdict = Denied r; after = b; tally = tally }
-    → fedAll b tally (bar ∷ bars) ≡ record { verdict = Denied r; after = b; tally = tally }
-unfolding fedAll
+first-refused : (b : BarBox) (tally : List TallyRow) (bar : Bar) (bars : List Bar) (r : Refusal) → tallied_of b tally (bar_feed bar) ≡ record { verdict = Denied r; after = b; tally = tally }
+    → fed_all b tally (bar ∷ bars) ≡ record { verdict = Denied r; after = b; tally = tally }
+unfolding fed_all
 first-refused b tally bar bars r e = rw e
 
 -- ---- by the verdict
 module _ (b : BarBox) (all : length b.bars ≡ places) (tally : List TallyRow) (shaped : Shaped tally) (ps : List Float) (sheet : List ℕ) where
-  by-verdict : (bars : List Bar) → barsOf ps ≡ bars → length ps ≡ 4 * length bars → 1 ≤ length bars → (1 < length bars → b.count + length bars ≤ mostBars)
-      → rowBytes * length bars ≤ length sheet → (v : Verdict) → verdictFor b tally (length bars) ≡ v → talliedOf b tally (lent ps sheet) ≡ fedAll b tally bars
+  by-verdict : (bars : List Bar) → bars_of ps ≡ bars → length ps ≡ 4 * length bars → 1 ≤ length bars → (1 < length bars → b.count + length bars ≤ most_bars)
+      → row_bytes * length bars ≤ length sheet → (v : Verdict) → verdict_for b tally (length bars) ≡ v → tallied_of b tally (lent ps sheet) ≡ fed_all b tally bars
   by-verdict [] is whole some few room v e = absurd (let z : ⊥ = omega arith in z)
   by-verdict (bar ∷ bars) is whole some few room (Denied r) e =
-      let first = tallied-refused b tally (barFeed bar) r (one-verdict b tally bar ∙ same-verdict b tally (suc (length bars)) some few ∙ e) in
+      let first = tallied-refused b tally (bar_feed bar) r (one-verdict b tally bar ∙ same-verdict b tally (suc (length bars)) some few ∙ e) in
       let both = tallied-refused b tally (lent ps sheet) r (verdict-bars b tally (suc (length bars)) (length ps) (length sheet) whole room ∙ e) in
       both ∙ sym (first-refused b tally bar bars r first)
   by-verdict (bar ∷ bars) is whole some few room Accepted e =
-      let accepted : verdictWith b tally (lent ps sheet) ≡ Accepted = verdict-bars b tally (suc (length bars)) (length ps) (length sheet) whole room ∙ e in
-      let met = fits b.thresholds b.count (isRight b) (length ps) (length sheet) (accepted-plain b tally (lent ps sheet) accepted) in
+      let accepted : verdict_with b tally (lent ps sheet) ≡ Accepted = verdict-bars b tally (suc (length bars)) (length ps) (length sheet) whole room ∙ e in
+      let met = fits b.thresholds b.count (is_right b) (length ps) (length sheet) (accepted-plain b tally (lent ps sheet) accepted) in
       let f : Fit b tally (suc (length bars)) =
-      record { valid = met.valid; few = omega (arith, met.few); adds = accepted-adds b.thresholds b.count (isRight b) tally (length ps) (length sheet) accepted; right = met.right-box } in
+      record { valid = met.valid; few = omega (arith, met.few); adds = accepted-adds b.thresholds b.count (is_right b) tally (length ps) (length sheet) accepted; right = met.right-box } in
       tallied-accepted b tally (lent ps sheet) accepted ∙ rw is (sym (all-fed b all tally shaped bar bars f))
 
-  pub batch-fed : length ps ≡ 4 * length (barsOf ps) → 1 ≤ length (barsOf ps) → (1 < length (barsOf ps) → b.count + length (barsOf ps) ≤ mostBars)
-      → rowBytes * length (barsOf ps) ≤ length sheet → talliedOf b tally (lent ps sheet) ≡ fedAll b tally (barsOf ps)
-  batch-fed whole some few room = by-verdict (barsOf ps) refl whole some few room (verdictFor b tally (length (barsOf ps))) refl
+  pub batch-fed : length ps ≡ 4 * length (bars_of ps) → 1 ≤ length (bars_of ps) → (1 < length (bars_of ps) → b.count + length (bars_of ps) ≤ most_bars)
+      → row_bytes * length (bars_of ps) ≤ length sheet → tallied_of b tally (lent ps sheet) ≡ fed_all b tally (bars_of ps)
+  batch-fed whole some few room = by-verdict (bars_of ps) refl whole some few room (verdict_for b tally (length (bars_of ps))) refl
 
 -- ---- no bars
-none-bars : (ps : List Float) → length ps ≡ 0 → barsOf ps ≡ []
-unfolding barsOf
+none-bars : (ps : List Float) → length ps ≡ 0 → bars_of ps ≡ []
+unfolding bars_of
 none-bars [] e = refl
 none-bars (p ∷ ps) e = absurd (let z : ⊥ = omega arith in z)
 
-pub none-fed : (b : BarBox) (tally : List TallyRow) (ps : List Float) → length ps ≡ 0 → record { verdict = Accepted; after = b; tally = tally } ≡ fedAll b tally (barsOf ps)
-unfolding fedAll
+pub none-fed : (b : BarBox) (tally : List TallyRow) (ps : List Float) → length ps ≡ 0 → record { verdict = Accepted; after = b; tally = tally } ≡ fed_all b tally (bars_of ps)
+unfolding fed_all
 none-fed b tally ps e = rw (none-bars ps e)

@@ -14,19 +14,19 @@ use Rattle.measures.specs.Bar.{Bar}
 use Rattle.measures.proofs.Order.{both_ways}
 use Rattle.answers.specs.declared.refusals.Refusal.{Refusal}
 use Rattle.answers.specs.declared.refusals.Refusal.TheVariants as refusal
-use Rattle.recognisers.specs.Refusal.{refusalNumber}
-use Rattle.recognisers.specs.Number.{mostBars}
+use Rattle.recognisers.specs.Refusal.{refusal_number}
+use Rattle.recognisers.specs.Number.{most_bars}
 use Rattle.text.specs.declared.line_text.Line.{Line, TheVariants.Prices, TheVariants.BadShape, TheVariants.BadPrice}
 use Rattle.label_texts.specs.LabelText.{bytes_of}
 use Rattle.input_lines.specs.Lines.{comma}
 use Rattle.text.specs.LineText.{line_of}
-use Rattle.input_lines.specs.Lines.{lineFeed, lines_from, lines_of}
+use Rattle.input_lines.specs.Lines.{line_feed, lines_from, lines_of}
 use Rattle.input_lines.proofs.LineLaws.{lines_end, lines-feed, lines-byte}
 use Rattle.output_lines.specs.declared.output.Stop.{Stop, TheVariants.Going, TheVariants.By, TheVariants.Price}
-use Rattle.output_lines.specs.Output.{digitCount, numeral, field, row_line, row_lines, refusedWord, refusalPart, goesOn, refusalLine}
-use Rattle.label_lines.specs.History.{newestLines, linesPrint, historyPrints}
+use Rattle.output_lines.specs.Output.{digit_count, numeral, field, row_line, row_lines, refused_word, refusal_part, goes_on, refusal_line}
+use Rattle.label_lines.specs.History.{newest_lines, lines_print, history_prints}
 use Rattle.label_lines.proofs.HistoryRows.{history-output}
-use Rattle.tally_lines.specs.History.{tallyPrints}
+use Rattle.tally_lines.specs.History.{tally_prints}
 use Rattle.tally_lines.specs.SameRefusal.{Tabled, WholeLines, Refused, SameRefusal}
 
 -- ---- whole lines
@@ -52,18 +52,18 @@ rows_whole ordinal k (v1 ∷ v2 ∷ codes) = whole_append _ _ (go (eqb v1 0)) (r
 -- ---- the refusal line is one line: no byte before its end is a line feed
 abbrev NoFeed : List ℕ → Type 0
 NoFeed [] = Unit {0}
-NoFeed (b ∷ bs) = (eqb b lineFeed ≡ false) × NoFeed bs
+NoFeed (b ∷ bs) = (eqb b line_feed ≡ false) × NoFeed bs
 
 free-append : (xs ys : List ℕ) → NoFeed xs → NoFeed ys → NoFeed (xs ++ ys)
 free-append [] ys x y = y
 free-append (b ∷ xs) ys x y = (x.0, free-append xs ys x.1 y)
 
-free-glyph : (d : ℕ) → eqb (hex_digit_ascii d) lineFeed ≡ false
+free-glyph : (d : ℕ) → eqb (hex_digit_ascii d) line_feed ≡ false
 free-glyph d = go (ltb d 10)
   where
-    go : (t : Bool) → eqb (cond t (48 + d) (87 + d)) lineFeed ≡ false
-    go true = ne_eqb (48 + d) lineFeed (λ e. omega (arith, e))
-    go false = ne_eqb (87 + d) lineFeed (λ e. omega (arith, e))
+    go : (t : Bool) → eqb (cond t (48 + d) (87 + d)) line_feed ≡ false
+    go true = ne_eqb (48 + d) line_feed (λ e. omega (arith, e))
+    go false = ne_eqb (87 + d) line_feed (λ e. omega (arith, e))
 
 free-digits : (k n : ℕ) → NoFeed (last_digits 10 k n)
 free-digits zero n = tt
@@ -71,47 +71,47 @@ free-digits (suc k) n = free-append (last_digits 10 k (n / 10)) (hex_digit_ascii
 
 free-numeral : (n : ℕ) → NoFeed (numeral n)
 unfolding numeral
-free-numeral n = free-digits (digitCount 19 n) n
+free-numeral n = free-digits (digit_count 19 n) n
 
-ends-line : (cur body : List ℕ) → NoFeed body → lines_from cur (body ++ (lineFeed ∷ [])) ≡ (cur ++ body) ∷ []
+ends-line : (cur body : List ℕ) → NoFeed body → lines_from cur (body ++ (line_feed ∷ [])) ≡ (cur ++ body) ∷ []
 ends-line cur [] f = rw append-nil (lines-feed cur [] ∙ ap (λ (x : List (List ℕ)). cur ∷ x) lines_end)
-ends-line cur (b ∷ body) f = lines-byte cur b (body ++ (lineFeed ∷ [])) f.0 ∙ ends-line (cur ++ (b ∷ [])) body f.1 ∙ rw append_assoc
+ends-line cur (b ∷ body) f = lines-byte cur b (body ++ (line_feed ∷ [])) f.0 ∙ ends-line (cur ++ (b ∷ [])) body f.1 ∙ rw append_assoc
 
 -- a field with a comma behind it
 free-field : (s : List ℕ) → NoFeed s → NoFeed (field s comma)
 free-field s f = free-append s (comma ∷ []) f (refl, tt)
 
-refusal-free : (ordinal : ℕ) (r : Refusal) → NoFeed (field refusedWord comma ++ field (numeral ordinal) comma ++ numeral (refusalNumber r))
+refusal-free : (ordinal : ℕ) (r : Refusal) → NoFeed (field refused_word comma ++ field (numeral ordinal) comma ++ numeral (refusal_number r))
 refusal-free ordinal r =
-    free-append (field refusedWord comma) (field (numeral ordinal) comma ++ numeral (refusalNumber r)) (refl, (refl, (refl, (refl, (refl, (refl, (refl, (refl, tt))))))))
-    (free-append (field (numeral ordinal) comma) (numeral (refusalNumber r)) (free-field (numeral ordinal) (free-numeral ordinal)) (free-numeral (refusalNumber r)))
+    free-append (field refused_word comma) (field (numeral ordinal) comma ++ numeral (refusal_number r)) (refl, (refl, (refl, (refl, (refl, (refl, (refl, (refl, tt))))))))
+    (free-append (field (numeral ordinal) comma) (numeral (refusal_number r)) (free-field (numeral ordinal) (free-numeral ordinal)) (free-numeral (refusal_number r)))
 
-refusal-one : (ordinal : ℕ) (stop : Stop) → goesOn stop ≡ false → (line : List ℕ) × (lines_of (refusalLine ordinal stop) ≡ line ∷ [])
-unfolding refusalLine refusalPart
+refusal-one : (ordinal : ℕ) (stop : Stop) → goes_on stop ≡ false → (line : List ℕ) × (lines_of (refusal_line ordinal stop) ≡ line ∷ [])
+unfolding refusal_line refusal_part
 refusal-one ordinal Going e = both_ways refl e
 refusal-one ordinal (By r) e =
-    let body = field refusedWord comma ++ field (numeral ordinal) comma ++ numeral (refusalNumber r) in
-    let is : field refusedWord comma ++ field (numeral ordinal) comma ++ field (numeral (refusalNumber r)) lineFeed ≡ body ++ (lineFeed ∷ []) = simp append_assoc in
+    let body = field refused_word comma ++ field (numeral ordinal) comma ++ numeral (refusal_number r) in
+    let is : field refused_word comma ++ field (numeral ordinal) comma ++ field (numeral (refusal_number r)) line_feed ≡ body ++ (line_feed ∷ []) = simp append_assoc in
     (body, ap lines_of is ∙ ends-line [] body (refusal-free ordinal r))
 refusal-one ordinal (Price place) e =
-    let front = field refusedWord comma ++ field (numeral ordinal) comma ++ numeral (refusalNumber refusal.BadPrice) in
+    let front = field refused_word comma ++ field (numeral ordinal) comma ++ numeral (refusal_number refusal.BadPrice) in
     let body = field front comma ++ numeral place in
-    let is : refusalLine ordinal (Price place) ≡ body ++ (lineFeed ∷ []) = simp append_assoc in
+    let is : refusal_line ordinal (Price place) ≡ body ++ (line_feed ∷ []) = simp append_assoc in
     (body, ap lines_of is ∙ ends-line [] body (free-append (field front comma) (numeral place) (free-field front (refusal-free ordinal refusal.BadPrice)) (free-numeral place)))
 
 -- ---- lines after a history
-alone : (ordinal : ℕ) (stop : Stop) → goesOn stop ≡ false → Refused (refusalLine ordinal stop) (refusalLine ordinal stop)
+alone : (ordinal : ℕ) (stop : Stop) → goes_on stop ≡ false → Refused (refusal_line ordinal stop) (refusal_line ordinal stop)
 alone ordinal stop e = record { ordinal = ordinal; stop = stop; refused = e; prints = refl; one_line = refusal-one ordinal stop e; rows = []; whole = inl refl; last = refl }
 
-same : (h : List Bar) (lines : List Line) → length h ≤ mostBars → Tabled h lines (tallyPrints h lines) ⊎ Refused (historyPrints h lines) (tallyPrints h lines)
-unfolding linesPrint
+same : (h : List Bar) (lines : List Line) → length h ≤ most_bars → Tabled h lines (tally_prints h lines) ⊎ Refused (history_prints h lines) (tally_prints h lines)
+unfolding lines_print
 same h [] few = inl (record { bars = []; accepted = refl; few = rw append-nil few; prints = rw append-nil })
 same h (BadShape ∷ lines) few = inr (alone (length h + 1) (By refusal.BadShape) refl)
 same h (BadPrice place ∷ lines) few = inr (alone (length h + 1) (Price place) refl)
-same h (Prices bar ∷ lines) few = go (ltb (length h) mostBars) refl (λ room. same (h ++ (bar ∷ [])) lines (rw (length-append h (bar ∷ [])) (omega (arith, ltb-true (length h) mostBars room))))
+same h (Prices bar ∷ lines) few = go (ltb (length h) most_bars) refl (λ room. same (h ++ (bar ∷ [])) lines (rw (length-append h (bar ∷ [])) (omega (arith, ltb-true (length h) most_bars room))))
   where
     behind : {tally printed : List ℕ} → Tabled (h ++ (bar ∷ [])) lines tally ⊎ Refused printed tally
-        → Tabled h (Prices bar ∷ lines) tally ⊎ Refused (newestLines (h ++ (bar ∷ [])) ++ printed) tally
+        → Tabled h (Prices bar ∷ lines) tally ⊎ Refused (newest_lines (h ++ (bar ∷ [])) ++ printed) tally
     behind (inl t) = inl (record { bars = bar ∷ t.bars; accepted = rw t.accepted; few = rw append_assoc at t.few; prints = rw append_assoc at t.prints })
     behind (inr r) =
         inr (record {
@@ -120,16 +120,16 @@ same h (Prices bar ∷ lines) few = go (ltb (length h) mostBars) refl (λ room. 
           refused = r.refused;
           prints = r.prints;
           one_line = r.one_line;
-          rows = newestLines (h ++ (bar ∷ [])) ++ r.rows;
+          rows = newest_lines (h ++ (bar ∷ [])) ++ r.rows;
           whole = whole_append _ r.rows (rows_whole _ 0 _) r.whole;
           last = rw (r.last, append_assoc);
         })
 
-    go : (t : Bool) → ltb (length h) mostBars ≡ t → let more = h ++ (bar ∷ []) in
-        (ltb (length h) mostBars ≡ true → Tabled more lines (tallyPrints more lines) ⊎ Refused (historyPrints more lines) (tallyPrints more lines))
-        → let past = refusalLine (length h + 1) (By refusal.TooManyBars) in
-        let tally = cond t (tallyPrints more lines) past in
-        Tabled h (Prices bar ∷ lines) tally ⊎ Refused (cond t (newestLines more ++ historyPrints more lines) past) tally
+    go : (t : Bool) → ltb (length h) most_bars ≡ t → let more = h ++ (bar ∷ []) in
+        (ltb (length h) most_bars ≡ true → Tabled more lines (tally_prints more lines) ⊎ Refused (history_prints more lines) (tally_prints more lines))
+        → let past = refusal_line (length h + 1) (By refusal.TooManyBars) in
+        let tally = cond t (tally_prints more lines) past in
+        Tabled h (Prices bar ∷ lines) tally ⊎ Refused (cond t (newest_lines more ++ history_prints more lines) past) tally
     go true room rest = behind (rest room)
     go false full rest = inr (alone (length h + 1) (By refusal.TooManyBars) refl)
 

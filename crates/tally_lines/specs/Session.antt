@@ -1,26 +1,26 @@
 -- The tally program, read by read: what it holds between two of them, what the bytes of one leave, and what the input's end prints.
 -- That this is what the input's lines print is proved in proofs/Whole.antt.
 use Rattle.std.specs.Prelude.{ℕ, ◌+◌, cond, List, [], ◌∷◌, ◌++◌, eqb, length, replicate}
-use Rattle.measures.specs.Bar.{Bar, pricesOf}
+use Rattle.measures.specs.Bar.{Bar, prices_of}
 use Rattle.answers.specs.declared.refusals.Refusal.TheVariants as refusal
 use Rattle.answers.specs.declared.refusals.Verdict.{Verdict, TheVariants.Accepted, TheVariants.Denied}
-use Rattle.recognisers.specs.Number.{rowBytes}
-use Rattle.recognisers.specs.Threshold.{standardSet}
+use Rattle.recognisers.specs.Number.{row_bytes}
+use Rattle.recognisers.specs.Threshold.{standard_set}
 use Rattle.box_record.specs.declared.boxes.BarBox.{BarBox}
-use Rattle.bar_box.specs.Box.{freshBox}
+use Rattle.bar_box.specs.Box.{fresh_box}
 use Rattle.recognisers.specs.Refusal.{leaves}
 use Rattle.bar_box.specs.History.{Feed}
 use Rattle.tallies.specs.declared.table.TallyRow.{TallyRow}
 use Rattle.tallies.specs.declared.feeds.Tallied.{Tallied}
-use Rattle.tallies.specs.Tally.{freshTally}
-use Rattle.tallies.specs.Feed.{lent, talliedOf}
+use Rattle.tallies.specs.Tally.{fresh_tally}
+use Rattle.tallies.specs.Feed.{lent, tallied_of}
 use Rattle.text.specs.declared.line_text.Line.{Line, TheVariants.Prices, TheVariants.BadShape, TheVariants.BadPrice}
 use Rattle.text.specs.LineText.{line_of}
-use Rattle.input_lines.specs.Lines.{lineFeed, keptLine, content, partialOf}
+use Rattle.input_lines.specs.Lines.{line_feed, kept_line, content, partial_of}
 use Rattle.output_lines.specs.declared.output.Stop.{Stop, TheVariants.Going, TheVariants.By, TheVariants.Price}
-use Rattle.output_lines.specs.Output.{goesOn, refusalLine}
+use Rattle.output_lines.specs.Output.{goes_on, refusal_line}
 use Rattle.tally_lines.specs.declared.session.Session.{Session}
-use Rattle.tally_lines.specs.Output.{tallyLines}
+use Rattle.tally_lines.specs.Output.{lines_of_tally}
 
 -- ---- bytes read as lines
 
@@ -31,36 +31,36 @@ pub record Read : Type 0 where
   pub stop : Stop
 
 -- a line's bar, and its refusal
-abbrev pub lineBars : Line → List Bar
-lineBars (Prices bar) = bar ∷ []
-lineBars BadShape = []
-lineBars (BadPrice place) = []
+abbrev pub line_bars : Line → List Bar
+line_bars (Prices bar) = bar ∷ []
+line_bars BadShape = []
+line_bars (BadPrice place) = []
 
-abbrev pub lineStop : Line → Stop
-lineStop (Prices bar) = Going
-lineStop BadShape = By refusal.BadShape
-lineStop (BadPrice place) = Price place
+abbrev pub line_stop : Line → Stop
+line_stop (Prices bar) = Going
+line_stop BadShape = By refusal.BadShape
+line_stop (BadPrice place) = Price place
 
 -- the end of a line behind these bars: its bar follows them, and reading goes on; a line that is no bar is refused, and it doesn't
-abbrev pub afterLine : Line → List Bar → (List Bar → Read) → Read
-afterLine l bars on = cond (goesOn (lineStop l)) (on (bars ++ lineBars l)) (record { bars = bars; line = []; stop = lineStop l })
+abbrev pub after_line : Line → List Bar → (List Bar → Read) → Read
+after_line l bars on = cond (goes_on (line_stop l)) (on (bars ++ line_bars l)) (record { bars = bars; line = []; stop = line_stop l })
 
 -- bytes behind these bars and a line that has begun with the bytes cur
-unfoldable pub readFrom : List Bar → List ℕ → List ℕ → Read
-readFrom bars cur [] = record { bars = bars; line = keptLine cur; stop = Going }
-readFrom bars cur (b ∷ bytes) =
-    cond (eqb b lineFeed) (afterLine (line_of cur) bars (λ more. readFrom more [] bytes)) (readFrom bars (cur ++ (b ∷ [])) bytes)
+unfoldable pub read_from : List Bar → List ℕ → List ℕ → Read
+read_from bars cur [] = record { bars = bars; line = kept_line cur; stop = Going }
+read_from bars cur (b ∷ bytes) =
+    cond (eqb b line_feed) (after_line (line_of cur) bars (λ more. read_from more [] bytes)) (read_from bars (cur ++ (b ∷ [])) bytes)
 
 -- ---- "A line is read as text first, then fed as one bar"
 
 -- a bar is fed by itself, with the tally and a sheet for its row
-abbrev pub barFeed : Bar → Feed
-barFeed bar = lent (pricesOf (bar ∷ [])) (replicate rowBytes 0)
+abbrev pub bar_feed : Bar → Feed
+bar_feed bar = lent (prices_of (bar ∷ [])) (replicate row_bytes 0)
 
 -- bars one after the other, up to the first that is refused
-unfoldable pub fedAll : BarBox → List TallyRow → List Bar → Tallied
-fedAll b tally [] = record { verdict = Accepted; after = b; tally = tally }
-fedAll b tally (bar ∷ bars) = let o = talliedOf b tally (barFeed bar) in leaves o.verdict o (fedAll o.after o.tally bars)
+unfoldable pub fed_all : BarBox → List TallyRow → List Bar → Tallied
+fed_all b tally [] = record { verdict = Accepted; after = b; tally = tally }
+fed_all b tally (bar ∷ bars) = let o = tallied_of b tally (bar_feed bar) in leaves o.verdict o (fed_all o.after o.tally bars)
 
 -- ---- what is held between two reads
 
@@ -75,42 +75,42 @@ pub record State : Type 0 where
 abbrev pub state_of : Session → State
 state_of s = record { line = content s.line; box = s.held; tally = s.tally; stop = s.stop }
 
-abbrev pub sessionOf : State → Session
-sessionOf s = record { line = partialOf s.line; held = s.box; tally = s.tally; stop = s.stop }
+abbrev pub session_of : State → Session
+session_of s = record { line = partial_of s.line; held = s.box; tally = s.tally; stop = s.stop }
 
-abbrev pub freshState : State
-freshState = record { line = []; box = freshBox standardSet; tally = freshTally; stop = Going }
+abbrev pub fresh_state : State
+fresh_state = record { line = []; box = fresh_box standard_set; tally = fresh_tally; stop = Going }
 
 -- a refused feed refuses its line
-abbrev pub stopBy : Verdict → Stop → Stop
-stopBy Accepted stop = stop
-stopBy (Denied r) stop = By r
+abbrev pub stop_by : Verdict → Stop → Stop
+stop_by Accepted stop = stop
+stop_by (Denied r) stop = By r
 
 -- what a feed of the bars that were read leaves; behind a bar that is refused, no line has begun
-abbrev pub settledBy : Tallied → Read → State
-settledBy o read = record { line = leaves o.verdict [] read.line; box = o.after; tally = o.tally; stop = stopBy o.verdict read.stop }
+abbrev pub settled_by : Tallied → Read → State
+settled_by o read = record { line = leaves o.verdict [] read.line; box = o.after; tally = o.tally; stop = stop_by o.verdict read.stop }
 
 abbrev pub settled : BarBox → List TallyRow → Read → State
-settled b tally read = settledBy (fedAll b tally read.bars) read
+settled b tally read = settled_by (fed_all b tally read.bars) read
 
 -- what bytes leave: nothing changes once a line was refused
-unfoldable pub stateAfter : State → List ℕ → State
-stateAfter s bytes = cond (goesOn s.stop) (settled s.box s.tally (readFrom [] s.line bytes)) s
+unfoldable pub state_after : State → List ℕ → State
+state_after s bytes = cond (goes_on s.stop) (settled s.box s.tally (read_from [] s.line bytes)) s
 
 -- what reads leave, one after the other
-unfoldable pub readsLeave : State → List (List ℕ) → State
-readsLeave s [] = s
-readsLeave s (bytes ∷ reads) = readsLeave (stateAfter s bytes) reads
+unfoldable pub reads_leave : State → List (List ℕ) → State
+reads_leave s [] = s
+reads_leave s (bytes ∷ reads) = reads_leave (state_after s bytes) reads
 
 -- ---- what is printed
 
 -- the tally, or the refusal and nothing else; the ordinal of a refused line is one more than the bars before
 abbrev pub printed : State → List ℕ
-printed s = cond (goesOn s.stop) (tallyLines 0 s.tally) (refusalLine (s.box.count + 1) s.stop)
+printed s = cond (goes_on s.stop) (lines_of_tally 0 s.tally) (refusal_line (s.box.count + 1) s.stop)
 
 -- at the input's end a line that has begun ends
 unfoldable pub closed : State → State
-closed s = cond (eqb (length s.line) 0) s (stateAfter s (lineFeed ∷ []))
+closed s = cond (eqb (length s.line) 0) s (state_after s (line_feed ∷ []))
 
-abbrev pub endPrints : State → List ℕ
-endPrints s = printed (closed s)
+abbrev pub end_prints : State → List ℕ
+end_prints s = printed (closed s)

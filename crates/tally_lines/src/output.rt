@@ -1,7 +1,7 @@
 // The lines of a tally, written into a buffer from a place on. Each function answers the place behind what it wrote.
 ghost use Rattle.std.specs.Prelude.{◌+◌, ◌≤◌, length};
-ghost use Rattle.output_lines.specs.Output.{longestCount, Written};
-ghost use Rattle.tally_lines.specs.Output.{cellLine, cellLines, tallyLines, rowRoom, tallyRoom};
+ghost use Rattle.output_lines.specs.Output.{longest_count, Written};
+ghost use Rattle.tally_lines.specs.Output.{cell_line, cell_lines, lines_of_tally, row_room, tally_room};
 
 use output_lines::output::print_count;
 use recognisers::counts::{LABELS, RECOGNISERS};
@@ -9,8 +9,8 @@ use tallies::TallyRow;
 
 // The line of one cell, if it isn't zero.
 fn write_cell(k: u64, c: u8, count: u64, out: &mut [u8], at: usize) -> usize
-    requires { at + longestCount ≤ length out.old }
-    ensures { (result ≤ at + longestCount) × Written out.old at (cellLine k c count) out.new result }
+    requires { at + longest_count ≤ length out.old }
+    ensures { (result ≤ at + longest_count) × Written out.old at (cell_line k c count) out.new result }
 {
     if count == 0 {
         at
@@ -21,8 +21,8 @@ fn write_cell(k: u64, c: u8, count: u64, out: &mut [u8], at: usize) -> usize
 
 // The lines of a recogniser's counts.
 fn write_cells(k: u64, row: TallyRow, out: &mut [u8], at: usize) -> usize
-    requires { at + rowRoom ≤ length out.old }
-    ensures { (result ≤ at + rowRoom) × Written out.old at (cellLines k 0 row.counts) out.new result }
+    requires { at + row_room ≤ length out.old }
+    ensures { (result ≤ at + row_room) × Written out.old at (cell_lines k 0 row.counts) out.new result }
 {
     let counts = row.counts;
     let mut c = 0usize;
@@ -37,8 +37,8 @@ fn write_cells(k: u64, row: TallyRow, out: &mut [u8], at: usize) -> usize
 
 // The lines of a table, from the buffer's front on.
 pub(crate) fn write_tally(tally: [TallyRow; RECOGNISERS], out: &mut [u8]) -> usize
-    requires { tallyRoom ≤ length out.old }
-    ensures { (result ≤ tallyRoom) × Written out.old 0 (tallyLines 0 tally) out.new result }
+    requires { tally_room ≤ length out.old }
+    ensures { (result ≤ tally_room) × Written out.old 0 (lines_of_tally 0 tally) out.new result }
 {
     let mut k = 0usize;
     let mut place = 0usize;

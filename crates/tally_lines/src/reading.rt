@@ -1,10 +1,10 @@
 // Bytes read as lines, and the bars of these as a run of prices.
 ghost use Rattle.std.specs.Prelude.{◌≡◌, [], ◌+◌, ◌*◌, ◌≤◌, length, take};
-ghost use Rattle.measures.specs.Bar.{overlay, pricesOf};
+ghost use Rattle.measures.specs.Bar.{overlay, prices_of};
 ghost use Rattle.text.specs.LineText.{line_of};
-ghost use Rattle.input_lines.specs.Lines.{content, partialOf};
-ghost use Rattle.tally_lines.specs.Session.{readFrom, lineBars, lineStop};
-ghost use Rattle.tally_lines.specs.SessionSteps.{gatheredOf};
+ghost use Rattle.input_lines.specs.Lines.{content, partial_of};
+ghost use Rattle.tally_lines.specs.Session.{read_from, line_bars, line_stop};
+ghost use Rattle.tally_lines.specs.SessionSteps.{gathered_of};
 
 use measures::put_bar;
 use output_lines::Stop;
@@ -25,7 +25,7 @@ pub(crate) struct Gathered {
 // The end of a line behind n bars, with so many bytes used: its bar goes behind theirs.
 fn end_line(line: Partial, used: usize, prices: &mut [f64], n: usize) -> Gathered
     requires { 4 * (n + 1) ≤ length prices.old }
-    ensures { (result.line ≡ partialOf []) × (result.used ≡ used) × (result.bars ≡ n + length (lineBars (line_of (content line)))) × (result.stop ≡ lineStop (line_of (content line))) × (prices.new ≡ overlay prices.old (4 * n) (pricesOf (lineBars (line_of (content line))))) }
+    ensures { (result.line ≡ partial_of []) × (result.used ≡ used) × (result.bars ≡ n + length (line_bars (line_of (content line)))) × (result.stop ≡ line_stop (line_of (content line))) × (prices.new ≡ overlay prices.old (4 * n) (prices_of (line_bars (line_of (content line))))) }
 {
     let begun = lines::begin();
     match read_partial(line) {
@@ -57,7 +57,7 @@ fn end_line(line: Partial, used: usize, prices: &mut [f64], n: usize) -> Gathere
 fn next_line(line: Partial, chunk: &[u8], prices: &mut [f64], n: usize) -> Gathered
     requires { (1 ≤ length chunk.now) × (4 * (n + 1) ≤ length prices.old) }
     ensures le_used { (1 ≤ result.used) × (result.used ≤ length chunk.now) × (result.bars ≤ n + 1) }
-    ensures value { (result ≡ gatheredOf result.used n (readFrom [] (content line) (take result.used chunk.now))) × (prices.new ≡ overlay prices.old (4 * n) (pricesOf (readFrom [] (content line) (take result.used chunk.now)).bars)) }
+    ensures value { (result ≡ gathered_of result.used n (read_from [] (content line) (take result.used chunk.now))) × (prices.new ≡ overlay prices.old (4 * n) (prices_of (read_from [] (content line) (take result.used chunk.now)).bars)) }
 {
     let k = lines::piece_end(LINE_FEED, chunk);
     let longer = lines::extend(line, &chunk[..k]);
@@ -77,7 +77,7 @@ fn next_line(line: Partial, chunk: &[u8], prices: &mut [f64], n: usize) -> Gathe
 pub(crate) fn gather(line: Partial, chunk: &[u8], most: usize, prices: &mut [f64]) -> Gathered
     requires { (1 ≤ most) × (4 * most ≤ length prices.old) × (1 ≤ length chunk.now) }
     ensures le_used { (1 ≤ result.used) × (result.used ≤ length chunk.now) × (result.bars ≤ most) }
-    ensures value { (result ≡ gatheredOf result.used 0 (readFrom [] (content line) (take result.used chunk.now))) × (prices.new ≡ overlay prices.old 0 (pricesOf (readFrom [] (content line) (take result.used chunk.now)).bars)) }
+    ensures value { (result ≡ gathered_of result.used 0 (read_from [] (content line) (take result.used chunk.now))) × (prices.new ≡ overlay prices.old 0 (prices_of (read_from [] (content line) (take result.used chunk.now)).bars)) }
 {
     // the line anew, so that it is one value from the start
     let mut begun = lines::extend(line, &chunk[..0]);

@@ -1,11 +1,11 @@
 // What is held between two reads of an input, and what its end prints.
 ghost use Rattle.std.specs.Prelude.{◌≡◌, true, [], ◌+◌, ◌*◌, ◌≤◌, ◌<◌, length, take};
-ghost use Rattle.measures.specs.Bar.{barsOf};
-ghost use Rattle.recognisers.specs.Number.{mostBars};
-ghost use Rattle.input_lines.specs.Lines.{content, partialOf};
-ghost use Rattle.output_lines.specs.Output.{goesOn, lineIn, Written};
-ghost use Rattle.tally_lines.specs.Output.{tallyRoom};
-ghost use Rattle.tally_lines.specs.Session.{state_of, sessionOf, freshState, fedAll, settledBy, stateAfter, printed, closed, endPrints};
+ghost use Rattle.measures.specs.Bar.{bars_of};
+ghost use Rattle.recognisers.specs.Number.{most_bars};
+ghost use Rattle.input_lines.specs.Lines.{content, partial_of};
+ghost use Rattle.output_lines.specs.Output.{goes_on, line_in, Written};
+ghost use Rattle.tally_lines.specs.Output.{tally_room};
+ghost use Rattle.tally_lines.specs.Session.{state_of, session_of, fresh_state, fed_all, settled_by, state_after, printed, closed, end_prints};
 
 use crate::reading::Gathered;
 use crate::{output, reading};
@@ -39,7 +39,7 @@ struct Taken {
 
 // Before the first byte.
 pub fn begin() -> Session
-    ensures { result ≡ sessionOf freshState }
+    ensures { result ≡ session_of fresh_state }
 {
     let standard = Thresholds::standard();
     let made = bar_box::make(standard);
@@ -56,7 +56,7 @@ pub fn begin() -> Session
 
 // How many bars are fed at once: up to 1,024, as many as a box that counts so many may still take; or one, whose feed is then refused.
 fn batch(count: u32) -> usize
-    ensures { (1 ≤ result) × (result ≤ 1024) × (1 < result → count + result ≤ mostBars) }
+    ensures { (1 ≤ result) × (result ≤ 1024) × (1 < result → count + result ≤ most_bars) }
 {
     let left = MOST_BARS - least(count as usize, MOST_BARS);
     let most = least(left, 1024);
@@ -66,8 +66,8 @@ fn batch(count: u32) -> usize
 // Feeds bars all at once, which leaves what feeding them one by one does (proofs/BatchLaws.antt). No bars, no feed: a tally that doesn't add
 // up is refused with the first bar.
 fn feed_all(held: BarBox, tally: [TallyRow; RECOGNISERS], prices: &[f64]) -> Tallied
-    requires { (length prices.now ≡ 4 * length (barsOf prices.now)) × (length prices.now ≤ 4096) × (1 < length (barsOf prices.now) → held.count + length (barsOf prices.now) ≤ mostBars) }
-    ensures { result ≡ fedAll held tally (barsOf prices.now) }
+    requires { (length prices.now ≡ 4 * length (bars_of prices.now)) × (length prices.now ≤ 4096) × (1 < length (bars_of prices.now) → held.count + length (bars_of prices.now) ≤ most_bars) }
+    ensures { result ≡ fed_all held tally (bars_of prices.now) }
 {
     if prices.len() == 0 {
         Tallied {
@@ -83,8 +83,8 @@ fn feed_all(held: BarBox, tally: [TallyRow; RECOGNISERS], prices: &[f64]) -> Tal
 
 // What the feed of the bars that were gathered leaves: a refused one refuses its line.
 fn settle(fed: Tallied, got: Gathered) -> Session
-    requires { got.line ≡ partialOf (content got.line) }
-    ensures { result ≡ sessionOf (settledBy fed (record { bars = []; line = content got.line; stop = got.stop })) }
+    requires { got.line ≡ partial_of (content got.line) }
+    ensures { result ≡ session_of (settled_by fed (record { bars = []; line = content got.line; stop = got.stop })) }
 {
     let held = fed.after;
     let tally = fed.tally;
@@ -111,8 +111,8 @@ fn settle(fed: Tallied, got: Gathered) -> Session
 
 // Bytes up to a batch's end, or all of them.
 fn take_in(st: Session, chunk: &[u8]) -> Taken
-    requires { (goesOn st.stop ≡ true) × (1 ≤ length chunk.now) }
-    ensures { (1 ≤ result.used) × (result.used ≤ length chunk.now) × (result.session ≡ sessionOf (stateAfter (state_of st) (take result.used chunk.now))) }
+    requires { (goes_on st.stop ≡ true) × (1 ≤ length chunk.now) }
+    ensures { (1 ≤ result.used) × (result.used ≤ length chunk.now) × (result.session ≡ session_of (state_after (state_of st) (take result.used chunk.now))) }
 {
     let begun = st.line;
     let held = st.held;
@@ -131,7 +131,7 @@ fn take_in(st: Session, chunk: &[u8]) -> Taken
 
 // Bytes of input.
 pub fn absorb(st: Session, chunk: &[u8]) -> Session
-    ensures { result ≡ sessionOf (stateAfter (state_of st) chunk.now) }
+    ensures { result ≡ session_of (state_after (state_of st) chunk.now) }
 {
     // the line anew, so that the session is one value also where no byte is used
     let begun = st.line;
@@ -173,7 +173,7 @@ fn close(st: Session) -> Session
 
 // The tally, or the refusal.
 fn print(st: Session, out: &mut [u8]) -> usize
-    requires { tallyRoom ≤ length out.old }
+    requires { tally_room ≤ length out.old }
     ensures { (result ≤ length out.old) × Written out.old 0 (printed (state_of st)) out.new result }
 {
     let held = st.held;
@@ -190,7 +190,7 @@ fn print(st: Session, out: &mut [u8]) -> usize
 
 // What the input's end prints. A buffer without the room that a tally may need, 39,672 bytes, stays as it is.
 pub fn end(st: Session, out: &mut [u8]) -> usize
-    ensures printed { Written out.old 0 (lineIn tallyRoom (length out.old) (endPrints (state_of st))) out.new result }
+    ensures printed { Written out.old 0 (line_in tally_room (length out.old) (end_prints (state_of st))) out.new result }
     ensures within { result ≤ length out.old }
 {
     if ROOM <= out.len() {

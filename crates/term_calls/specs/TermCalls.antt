@@ -1,23 +1,23 @@
 -- Calls to a layer of terms, one after the other, each handed the layer that the one before it left; hours and answers as numbers.
 use Rattle.std.specs.Prelude.{ℕ, zero, suc, ◌+◌, ◌*◌, ◌/◌, min, List, [], ◌∷◌, ◌++◌, length, get_or, take, drop, Float}
-use Rattle.recognisers.specs.Number.{rowBytes}
-use Rattle.recognisers.specs.Refusal.{refusalNumber}
+use Rattle.recognisers.specs.Number.{row_bytes}
+use Rattle.recognisers.specs.Refusal.{refusal_number}
 use Rattle.answers.specs.declared.refusals.Verdict.{Verdict, TheVariants.Accepted, TheVariants.Denied}
 use Rattle.trading_hours.specs.declared.hours.{DayWindow.DayWindow, Hours.Hours}
-use Rattle.trading_hours.specs.Hours.{mostWindows, windowFrom, hoursWith}
+use Rattle.trading_hours.specs.Hours.{most_windows, window_from, hours_with}
 use Rattle.terms.specs.declared.layers.{Layer.Layer}
-use Rattle.terms.specs.History.{Call, Run, Shut, called, sheetAfter}
+use Rattle.terms.specs.History.{Call, Run, Shut, called, sheet_after}
 
 -- ---- hours as numbers
 
 -- two numbers to a window, from and to; missing ones read as zeros
-abbrev pub windowIn : List ℕ → ℕ → DayWindow
-windowIn numbers i = windowFrom (get_or numbers (2 * i) 0) (get_or numbers (2 * i + 1) 0)
+abbrev pub window_in : List ℕ → ℕ → DayWindow
+window_in numbers i = window_from (get_or numbers (2 * i) 0) (get_or numbers (2 * i + 1) 0)
 
 -- more windows than there are places for are told by their count
-unfoldable pub hoursIn : List ℕ → Hours
-hoursIn numbers =
-    hoursWith (windowIn numbers 0 ∷ windowIn numbers 1 ∷ windowIn numbers 2 ∷ windowIn numbers 3 ∷ []) (min ((length numbers + 1) / 2) (mostWindows + 1))
+unfoldable pub hours_in : List ℕ → Hours
+hours_in numbers =
+    hours_with (window_in numbers 0 ∷ window_in numbers 1 ∷ window_in numbers 2 ∷ window_in numbers 3 ∷ []) (min ((length numbers + 1) / 2) (most_windows + 1))
 
 -- ---- the calls
 
@@ -27,22 +27,22 @@ call_of zero prices stamps sheet = Shut sheet
 call_of (suc n) prices stamps sheet = Run (take (4 * suc n) prices) (take (suc n) stamps) sheet
 
 -- how many rows it filled, or 16,777,216 plus its refusal
-abbrev pub answerBy : Verdict → ℕ → ℕ
-answerBy Accepted rows = rows
-answerBy (Denied r) rows = 16777216 + refusalNumber r
+abbrev pub answer_by : Verdict → ℕ → ℕ
+answer_by Accepted rows = rows
+answer_by (Denied r) rows = 16777216 + refusal_number r
 
 -- the bars that are left, and the sheet behind the rows that were filled, go to the next call
-unfoldable pub answersOf : Layer → List Float → List ℕ → List ℕ → List ℕ → List ℕ
-answersOf l prices stamps sheet [] = []
-answersOf l prices stamps sheet (n ∷ ns) =
+unfoldable pub answers_of : Layer → List Float → List ℕ → List ℕ → List ℕ → List ℕ
+answers_of l prices stamps sheet [] = []
+answers_of l prices stamps sheet (n ∷ ns) =
     let x = call_of n prices stamps sheet in
     let t = called l x in
-    answerBy t.verdict t.rows ∷ answersOf t.after (drop (4 * n) prices) (drop n stamps) (drop (rowBytes * t.rows) (sheetAfter l x)) ns
+    answer_by t.verdict t.rows ∷ answers_of t.after (drop (4 * n) prices) (drop n stamps) (drop (row_bytes * t.rows) (sheet_after l x)) ns
 
-unfoldable pub sheetThrough : Layer → List Float → List ℕ → List ℕ → List ℕ → List ℕ
-sheetThrough l prices stamps sheet [] = sheet
-sheetThrough l prices stamps sheet (n ∷ ns) =
+unfoldable pub sheet_through : Layer → List Float → List ℕ → List ℕ → List ℕ → List ℕ
+sheet_through l prices stamps sheet [] = sheet
+sheet_through l prices stamps sheet (n ∷ ns) =
     let x = call_of n prices stamps sheet in
     let t = called l x in
-    let s = sheetAfter l x in
-    take (rowBytes * t.rows) s ++ sheetThrough t.after (drop (4 * n) prices) (drop n stamps) (drop (rowBytes * t.rows) s) ns
+    let s = sheet_after l x in
+    take (row_bytes * t.rows) s ++ sheet_through t.after (drop (4 * n) prices) (drop n stamps) (drop (row_bytes * t.rows) s) ns

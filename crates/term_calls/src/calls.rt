@@ -1,11 +1,11 @@
 // Runs and closes to a layer of terms, one after the other, with hours and answers as numbers.
 ghost use Rattle.std.specs.Prelude.{[], ◌∷◌, ◌++◌, ◌≡◌, ◌+◌, ◌-◌, ◌*◌, ◌≤◌, ◌<◌, length, take, drop};
 ghost use Rattle.measures.specs.Bar.{overlay};
-ghost use Rattle.recognisers.specs.Number.{mostBars};
-ghost use Rattle.trading_hours.specs.Hours.{mostWindows};
-ghost use Rattle.terms.specs.History.{called, sheetAfter};
-ghost use Rattle.term_calls.specs.Numbers.{writtenTo};
-ghost use Rattle.term_calls.specs.TermCalls.{windowIn, hoursIn, call_of, answerBy, answersOf, sheetThrough};
+ghost use Rattle.recognisers.specs.Number.{most_bars};
+ghost use Rattle.trading_hours.specs.Hours.{most_windows};
+ghost use Rattle.terms.specs.History.{called, sheet_after};
+ghost use Rattle.term_calls.specs.Numbers.{written_to};
+ghost use Rattle.term_calls.specs.TermCalls.{window_in, hours_in, call_of, answer_by, answers_of, sheet_through};
 
 use crate::numbers::number_at;
 use measures::least;
@@ -20,8 +20,8 @@ const MOST_WINDOWS: usize = 4;
 
 // The i-th window.
 fn window_of(numbers: &[u32], i: usize) -> DayWindow
-    requires { i < mostWindows }
-    ensures { result ≡ windowIn numbers.now i }
+    requires { i < most_windows }
+    ensures { result ≡ window_in numbers.now i }
 {
     DayWindow {
         from: number_at(numbers, 2 * i),
@@ -31,7 +31,7 @@ fn window_of(numbers: &[u32], i: usize) -> DayWindow
 
 // The hours with these numbers.
 pub fn hours_of(numbers: &[u32]) -> Hours
-    ensures { result ≡ hoursIn numbers.now }
+    ensures { result ≡ hours_in numbers.now }
 {
     let first = window_of(numbers, 0);
     let second = window_of(numbers, 1);
@@ -45,8 +45,8 @@ pub fn hours_of(numbers: &[u32]) -> Hours
 
 // The answer to a call as a number.
 fn answer_number(v: Verdict, rows: usize) -> u32
-    requires { rows ≤ mostBars }
-    ensures { result ≡ answerBy v rows }
+    requires { rows ≤ most_bars }
+    ensures { result ≡ answer_by v rows }
 {
     match v {
         Verdict::Accepted => rows as u32,
@@ -56,8 +56,8 @@ fn answer_number(v: Verdict, rows: usize) -> u32
 
 // Writes the answer to a call to its place, if there is one.
 fn put_answer(v: Verdict, rows: usize, answers: &mut [u32], i: usize)
-    requires { rows ≤ mostBars }
-    ensures { answers.new ≡ overlay answers.old i (take (length answers.old - i) (answerBy v rows ∷ [])) }
+    requires { rows ≤ most_bars }
+    ensures { answers.new ≡ overlay answers.old i (take (length answers.old - i) (answer_by v rows ∷ [])) }
 {
     if i < answers.len() {
         answers[i] = answer_number(v, rows);
@@ -77,7 +77,7 @@ fn make_call(
 ) -> Taken
     requires { (p ≤ length prices.now) × (s ≤ length stamps.now) × (at ≤ length sheet.old) }
     ensures { let x = call_of size (drop p prices.now) (drop s stamps.now) (drop at sheet.old) in
-        (result ≡ called l x) × (sheet.new ≡ take at sheet.old ++ sheetAfter l x) }
+        (result ≡ called l x) × (sheet.new ≡ take at sheet.old ++ sheet_after l x) }
 {
     if size == 0 {
         return terms::close(l, &mut sheet[at..]);
@@ -97,8 +97,8 @@ pub fn make_calls(
     sheet: &mut [u8],
     answers: &mut [u32],
 )
-    ensures { (sheet.new ≡ sheetThrough l prices.now stamps.now sheet.old sizes.now)
-        × (answers.new ≡ writtenTo answers.old (answersOf l prices.now stamps.now sheet.old sizes.now)) }
+    ensures { (sheet.new ≡ sheet_through l prices.now stamps.now sheet.old sizes.now)
+        × (answers.new ≡ written_to answers.old (answers_of l prices.now stamps.now sheet.old sizes.now)) }
 {
     let mut layer = l;
     let mut p = 0usize;

@@ -9,9 +9,9 @@ use Rattle.measures.specs.Bar.{Bar}
 use Rattle.trading_hours.specs.declared.hours.Hours.{Hours}
 use Rattle.term_events.specs.declared.events.OpenBar.{OpenBar, TheVariants.Nothing, TheVariants.Begun}
 use Rattle.term_events.specs.declared.events.Carried.{Carried}
-use Rattle.term_events.specs.Events.{Event, Minute, Close, openBars, endedAt, carriedAt, ended_of, carried_of, stampAfter, minutesOf, minuteStep}
+use Rattle.term_events.specs.Events.{Event, Minute, Close, open_bars, ended_at, carried_at, ended_of, carried_of, stamp_after, minutes_of, minute_step}
 
-pub few-in : (p : OpenBar) → length (openBars p) ≤ 1
+pub few-in : (p : OpenBar) → length (open_bars p) ≤ 1
 few-in Nothing = omega arith
 few-in (Begun b) = omega arith
 
@@ -21,33 +21,33 @@ module _ (h : Hours) (m : ℕ) where
   pub carried-append : (c : Carried) (xs ys : List Event) → carried_of h m c (xs ++ ys) ≡ carried_of h m (carried_of h m c xs) ys
   unfolding carried_of
   carried-append c [] ys = refl
-  carried-append c (x ∷ xs) ys = carried-append (carriedAt h m c x) xs ys
+  carried-append c (x ∷ xs) ys = carried-append (carried_at h m c x) xs ys
 
   pub ended-append : (c : Carried) (xs ys : List Event) → ended_of h m c (xs ++ ys) ≡ ended_of h m c xs ++ ended_of h m (carried_of h m c xs) ys
   unfolding ended_of carried_of
   ended-append c [] ys = refl
-  ended-append c (x ∷ xs) ys = rw (ended-append (carriedAt h m c x) xs ys) (sym (append_assoc (endedAt h m c x) (ended_of h m (carriedAt h m c x) xs) (ended_of h m (carried_of h m (carriedAt h m c x) xs) ys)))
+  ended-append c (x ∷ xs) ys = rw (ended-append (carried_at h m c x) xs ys) (sym (append_assoc (ended_at h m c x) (ended_of h m (carried_at h m c x) xs) (ended_of h m (carried_of h m (carried_at h m c x) xs) ys)))
 
   -- one event
-  pub ended-one : (c : Carried) (e : Event) → ended_of h m c (e ∷ []) ≡ endedAt h m c e
+  pub ended-one : (c : Carried) (e : Event) → ended_of h m c (e ∷ []) ≡ ended_at h m c e
   unfolding ended_of
-  ended-one c e = append-nil (endedAt h m c e)
+  ended-one c e = append-nil (ended_at h m c e)
 
-  pub carried-one : (c : Carried) (e : Event) → carried_of h m c (e ∷ []) ≡ carriedAt h m c e
+  pub carried-one : (c : Carried) (e : Event) → carried_of h m c (e ∷ []) ≡ carried_at h m c e
   unfolding carried_of
   carried-one c e = refl
 
   -- the stamp that is kept is that of the last bar
-  pub carried-last : (c : Carried) (es : List Event) → (carried_of h m c es).last ≡ stampAfter c.last es
-  unfolding carried_of stampAfter minuteStep
+  pub carried-last : (c : Carried) (es : List Event) → (carried_of h m c es).last ≡ stamp_after c.last es
+  unfolding carried_of stamp_after minute_step
   carried-last c [] = refl
-  carried-last c (Minute s b ∷ es) = carried-last (carriedAt h m c (Minute s b)) es
-  carried-last c (Close ∷ es) = carried-last (carriedAt h m c Close) es
+  carried-last c (Minute s b ∷ es) = carried-last (carried_at h m c (Minute s b)) es
+  carried-last c (Close ∷ es) = carried-last (carried_at h m c Close) es
 
   -- ---- how many end
 
-  few-at : (c : Carried) (e : Event) → length (endedAt h m c e) ≤ 1
-  few-at c (Minute s b) = few-in (minuteStep h m c s b).ended
+  few-at : (c : Carried) (e : Event) → length (ended_at h m c e) ≤ 1
+  few-at c (Minute s b) = few-in (minute_step h m c s b).ended
   few-at c Close = few-in c.pending
 
   -- no more than there are events
@@ -56,13 +56,13 @@ module _ (h : Hours) (m : ℕ) where
   ended-few c [] = omega arith
   ended-few c (e ∷ es) =
       let here = few-at c e in
-      let later = ended-few (carriedAt h m c e) es in
+      let later = ended-few (carried_at h m c e) es in
       rw length-append (omega arith)
 
 -- ---- the events of a run
 
-pub length-minutes : (ss : List ℕ) (bars : List Bar) → length ss ≡ length bars → length (minutesOf ss bars) ≡ length ss
-unfolding minutesOf
+pub length-minutes : (ss : List ℕ) (bars : List Bar) → length ss ≡ length bars → length (minutes_of ss bars) ≡ length ss
+unfolding minutes_of
 length-minutes [] bars e = refl
 length-minutes (s ∷ ss) [] e = absurd (let z : ⊥ = omega arith in z)
 length-minutes (s ∷ ss) (b ∷ bars) e = let less : length ss ≡ length bars = omega arith in rw (length-minutes ss bars less)

@@ -11,26 +11,26 @@ use lib.Seq.{drop-cons}
 use Rattle.measures.specs.Bar.{Bar}
 use Rattle.answers.specs.declared.refusals.Refusal.TheVariants.{LateStamp, OutsideHours}
 use Rattle.answers.specs.declared.refusals.Verdict.TheVariants.{Accepted, Denied}
-use Rattle.recognisers.specs.Refusal.{firstTrue}
+use Rattle.recognisers.specs.Refusal.{first_true}
 use Rattle.answers.proofs.VerdictLaws.{none_true}
 use Rattle.trading_hours.specs.declared.hours.Hours.{Hours}
-use Rattle.trading_hours.specs.Hours.{inHours}
+use Rattle.trading_hours.specs.Hours.{in_hours}
 use Rattle.term_events.specs.declared.events.LastStamp.{LastStamp, TheVariants.Never, TheVariants.At}
 use Rattle.term_events.specs.declared.events.OpenBar.{OpenBar, TheVariants.Nothing}
 use Rattle.term_events.specs.declared.events.Carried.{Carried}
-use Rattle.term_events.specs.Events.{Event, Minute, Close, carriedAt, carried_of, minuteStep, stampAfter, stampsIn, minutesOf}
-use Rattle.term_events.specs.Verdicts.{above, stampsTried, soundCarried}
+use Rattle.term_events.specs.Events.{Event, Minute, Close, carried_at, carried_of, minute_step, stamp_after, stamps_in, minutes_of}
+use Rattle.term_events.specs.Verdicts.{above, stamps_tried, sound_carried}
 
 module _ (h : Hours) where
   -- ---- the first one
 
-  pub next-tried : (last : LastStamp) (s : ℕ) (ss : List ℕ) → above last s ≡ true → inHours h s ≡ true → firstTrue (stampsTried h last (s ∷ ss)) ≡ firstTrue (stampsTried h (At s) ss)
-  unfolding firstTrue stampsTried
+  pub next-tried : (last : LastStamp) (s : ℕ) (ss : List ℕ) → above last s ≡ true → in_hours h s ≡ true → first_true (stamps_tried h last (s ∷ ss)) ≡ first_true (stamps_tried h (At s) ss)
+  unfolding first_true stamps_tried
   next-tried last s ss e f = simp (e, f)
 
-  pub first-passed : (last : LastStamp) (s : ℕ) (ss : List ℕ) → firstTrue (stampsTried h last (s ∷ ss)) ≡ Accepted
-      → (above last s ≡ true) × (inHours h s ≡ true) × (firstTrue (stampsTried h (At s) ss) ≡ Accepted)
-  unfolding stampsTried
+  pub first-passed : (last : LastStamp) (s : ℕ) (ss : List ℕ) → first_true (stamps_tried h last (s ∷ ss)) ≡ Accepted
+      → (above last s ≡ true) × (in_hours h s ≡ true) × (first_true (stamps_tried h (At s) ss) ≡ Accepted)
+  unfolding stamps_tried
   first-passed last s ss e =
       let ten = none_true _ _ e in
       let eleven = none_true _ _ ten.1 in
@@ -39,20 +39,20 @@ module _ (h : Hours) where
   -- ---- those from one on
 
   module _ (last : LastStamp) (ss : List ℕ) (i : ℕ) (within : i < length ss) where
-    pub stamps-late : above last (get_or ss i 0) ≡ false → firstTrue (stampsTried h last (drop i ss)) ≡ Denied LateStamp
-    unfolding firstTrue stampsTried
+    pub stamps-late : above last (get_or ss i 0) ≡ false → first_true (stamps_tried h last (drop i ss)) ≡ Denied LateStamp
+    unfolding first_true stamps_tried
     stamps-late e = rw (drop-cons ss i 0 within) (simp e)
 
-    pub stamps-outside : above last (get_or ss i 0) ≡ true → inHours h (get_or ss i 0) ≡ false → firstTrue (stampsTried h last (drop i ss)) ≡ Denied OutsideHours
-    unfolding firstTrue stampsTried
+    pub stamps-outside : above last (get_or ss i 0) ≡ true → in_hours h (get_or ss i 0) ≡ false → first_true (stamps_tried h last (drop i ss)) ≡ Denied OutsideHours
+    unfolding first_true stamps_tried
     stamps-outside e f = rw (drop-cons ss i 0 within) (simp (e, f))
 
-    pub stamps-next : above last (get_or ss i 0) ≡ true → inHours h (get_or ss i 0) ≡ true
-        → firstTrue (stampsTried h last (drop i ss)) ≡ firstTrue (stampsTried h (At (get_or ss i 0)) (drop (i + 1) ss))
+    pub stamps-next : above last (get_or ss i 0) ≡ true → in_hours h (get_or ss i 0) ≡ true
+        → first_true (stamps_tried h last (drop i ss)) ≡ first_true (stamps_tried h (At (get_or ss i 0)) (drop (i + 1) ss))
     stamps-next e f = rw (add-one i, drop-cons ss i 0 within) (next-tried last (get_or ss i 0) (drop (suc i) ss) e f)
 
-  pub stamps-past : (last : LastStamp) (ss : List ℕ) (i : ℕ) → length ss ≤ i → firstTrue (stampsTried h last (drop i ss)) ≡ Accepted
-  unfolding firstTrue stampsTried
+  pub stamps-past : (last : LastStamp) (ss : List ℕ) (i : ℕ) → length ss ≤ i → first_true (stamps_tried h last (drop i ss)) ≡ Accepted
+  unfolding first_true stamps_tried
   stamps-past last ss i past = rw (drop_of_length-le ss past)
 
   -- ---- any of those that no refusal stops
@@ -62,7 +62,7 @@ module _ (h : Hours) where
   above-later Never a b up next = refl
   above-later (At s) a b up next = lt-ltb s b (omega (arith, ltb-true s a up, ltb-true a b next))
 
-  pub stamps-at : (last : LastStamp) (ss : List ℕ) (i : ℕ) → i < length ss → firstTrue (stampsTried h last ss) ≡ Accepted → (above last (get_or ss i 0) ≡ true) × (inHours h (get_or ss i 0) ≡ true)
+  pub stamps-at : (last : LastStamp) (ss : List ℕ) (i : ℕ) → i < length ss → first_true (stamps_tried h last ss) ≡ Accepted → (above last (get_or ss i 0) ≡ true) × (in_hours h (get_or ss i 0) ≡ true)
   stamps-at last [] i within e = absurd (let z : ⊥ = omega arith in z)
   stamps-at last (s ∷ ss) zero within e = let first = first-passed last s ss e in (first.0, first.1)
   stamps-at last (s ∷ ss) (suc i) within e =
@@ -70,7 +70,7 @@ module _ (h : Hours) where
       let next = stamps-at (At s) ss i (omega arith) first.2 in
       (above-later last s (get_or ss i 0) first.0 next.0, next.1)
 
-  pub stamps-rise : (last : LastStamp) (ss : List ℕ) (i j : ℕ) → i < j → j < length ss → firstTrue (stampsTried h last ss) ≡ Accepted → get_or ss i 0 < get_or ss j 0
+  pub stamps-rise : (last : LastStamp) (ss : List ℕ) (i j : ℕ) → i < j → j < length ss → first_true (stamps_tried h last ss) ≡ Accepted → get_or ss i 0 < get_or ss j 0
   unfolding above
   stamps-rise last [] i j less within e = absurd (let z : ⊥ = omega arith in z)
   stamps-rise last (s ∷ ss) i zero less within e = absurd (let z : ⊥ = omega arith in z)
@@ -79,34 +79,34 @@ module _ (h : Hours) where
 
   -- ---- the stamps of events
 
-  pub stamps-append : (last : LastStamp) (es new : List Event) → firstTrue (stampsTried h last (stampsIn es)) ≡ Accepted
-      → firstTrue (stampsTried h (stampAfter last es) (stampsIn new)) ≡ Accepted → firstTrue (stampsTried h last (stampsIn (es ++ new))) ≡ Accepted
-  unfolding stampsIn stampAfter
+  pub stamps-append : (last : LastStamp) (es new : List Event) → first_true (stamps_tried h last (stamps_in es)) ≡ Accepted
+      → first_true (stamps_tried h (stamp_after last es) (stamps_in new)) ≡ Accepted → first_true (stamps_tried h last (stamps_in (es ++ new))) ≡ Accepted
+  unfolding stamps_in stamp_after
   stamps-append last [] new p q = q
   stamps-append last (Minute s b ∷ es) new p q =
-      let first = first-passed last s (stampsIn es) p in
-      next-tried last s (stampsIn (es ++ new)) first.0 first.1 ∙ stamps-append (At s) es new first.2 q
+      let first = first-passed last s (stamps_in es) p in
+      next-tried last s (stamps_in (es ++ new)) first.0 first.1 ∙ stamps-append (At s) es new first.2 q
   stamps-append last (Close ∷ es) new p q = stamps-append last es new p q
 
   -- ---- what is carried after them keeps the rules
 
   -- with nothing open
-  pub sound-closed : (last : LastStamp) (p : OpenBar) → soundCarried h last p ≡ true → soundCarried h last Nothing ≡ true
-  unfolding soundCarried
+  pub sound-closed : (last : LastStamp) (p : OpenBar) → sound_carried h last p ≡ true → sound_carried h last Nothing ≡ true
+  unfolding sound_carried
   sound-closed Never p k = refl
   sound-closed (At s) p k = k
 
-  pub events-sound : (m : ℕ) (c : Carried) (es : List Event) → firstTrue (stampsTried h c.last (stampsIn es)) ≡ Accepted
-      → soundCarried h c.last c.pending ≡ true → let d = carried_of h m c es in soundCarried h d.last d.pending ≡ true
-  unfolding carried_of stampsIn minuteStep soundCarried
+  pub events-sound : (m : ℕ) (c : Carried) (es : List Event) → first_true (stamps_tried h c.last (stamps_in es)) ≡ Accepted
+      → sound_carried h c.last c.pending ≡ true → let d = carried_of h m c es in sound_carried h d.last d.pending ≡ true
+  unfolding carried_of stamps_in minute_step sound_carried
   events-sound m c [] e k = k
   events-sound m c (Minute s b ∷ es) e k =
-      let first = first-passed c.last s (stampsIn es) e in
-      events-sound m (carriedAt h m c (Minute s b)) es first.2 first.1
-  events-sound m c (Close ∷ es) e k = events-sound m (carriedAt h m c Close) es e (sound-closed c.last c.pending k)
+      let first = first-passed c.last s (stamps_in es) e in
+      events-sound m (carried_at h m c (Minute s b)) es first.2 first.1
+  events-sound m c (Close ∷ es) e k = events-sound m (carried_at h m c Close) es e (sound-closed c.last c.pending k)
 
-pub minutes-stamps : (ss : List ℕ) (bars : List Bar) → length ss ≡ length bars → stampsIn (minutesOf ss bars) ≡ ss
-unfolding minutesOf stampsIn
+pub minutes-stamps : (ss : List ℕ) (bars : List Bar) → length ss ≡ length bars → stamps_in (minutes_of ss bars) ≡ ss
+unfolding minutes_of stamps_in
 minutes-stamps [] bars e = refl
 minutes-stamps (s ∷ ss) [] e = absurd (let z : ⊥ = omega arith in z)
 minutes-stamps (s ∷ ss) (b ∷ bars) e = rw (minutes-stamps ss bars (omega arith))

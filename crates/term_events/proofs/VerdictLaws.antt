@@ -9,70 +9,70 @@ use lib.ListN.{length}
 use Rattle.recognisers.specs.Threshold.{Thresholds}
 use Rattle.answers.specs.declared.refusals.Refusal.TheVariants.{BadThreshold, BrokenBars}
 use Rattle.answers.specs.declared.refusals.Verdict.{Verdict, TheVariants.Accepted, TheVariants.Denied}
-use Rattle.recognisers.specs.Refusal.{Tried, brokenBars, badLayer, firstTrue, nextAfter, feedTried, feedVerdict, checkedTried}
+use Rattle.recognisers.specs.Refusal.{Tried, broken_bars, bad_layer, first_true, next_after, feed_tried, feed_verdict, checked_tried}
 use Rattle.answers.proofs.VerdictLaws.{none_true, accepts}
 use Rattle.trading_hours.specs.declared.hours.Hours.{Hours}
-use Rattle.trading_hours.specs.Hours.{validHours, termLength}
+use Rattle.trading_hours.specs.Hours.{valid_hours, term_length}
 use Rattle.trading_hours.proofs.HourLaws.{both}
 use Rattle.term_events.specs.declared.events.{LastStamp.LastStamp, Carried.Carried}
-use Rattle.term_events.specs.Verdicts.{stampsTried, soundCarried, validLayer, runTried, closeTried, runVerdict, closeVerdict}
+use Rattle.term_events.specs.Verdicts.{stamps_tried, sound_carried, valid_layer, run_tried, close_tried, run_verdict, close_verdict}
 
 -- ---- the tests of a run: those that are checked as a feed's, and then those of the stamps
 
-abbrev pub thenTried : Verdict → Verdict → Verdict
-thenTried Accepted v = v
-thenTried (Denied r) v = Denied r
+abbrev pub then_tried : Verdict → Verdict → Verdict
+then_tried Accepted v = v
+then_tried (Denied r) v = Denied r
 
-first-append : (xs ys : List Tried) → firstTrue (xs ++ ys) ≡ thenTried (firstTrue xs) (firstTrue ys)
-unfolding firstTrue
+first-append : (xs ys : List Tried) → first_true (xs ++ ys) ≡ then_tried (first_true xs) (first_true ys)
+unfolding first_true
 first-append [] ys = refl
 first-append (x ∷ xs) ys = go x.met (first-append xs ys)
   where
-    go : (m : Bool) → firstTrue (xs ++ ys) ≡ thenTried (firstTrue xs) (firstTrue ys)
-        → cond m (Denied x.why) (firstTrue (xs ++ ys)) ≡ thenTried (cond m (Denied x.why) (firstTrue xs)) (firstTrue ys)
+    go : (m : Bool) → first_true (xs ++ ys) ≡ then_tried (first_true xs) (first_true ys)
+        → cond m (Denied x.why) (first_true (xs ++ ys)) ≡ then_tried (cond m (Denied x.why) (first_true xs)) (first_true ys)
     go true e = refl
     go false e = e
 
-module _ (t : Thresholds) (valid : Bool) (n : ℕ) (right : Bool) (prices : ℕ) (stamps : List ℕ) (sheet : ℕ) (v : Verdict) (e : firstTrue (checkedTried t valid n prices (eqb (length stamps) (prices / 4)) right sheet) ≡ v) where
-  abbrev asFeed : List Tried
-  asFeed = nextAfter BadThreshold (badLayer valid ∷ []) (nextAfter BrokenBars (brokenBars (eqb (length stamps) (prices / 4)) ∷ []) (feedTried t n right prices sheet))
+module _ (t : Thresholds) (valid : Bool) (n : ℕ) (right : Bool) (prices : ℕ) (stamps : List ℕ) (sheet : ℕ) (v : Verdict) (e : first_true (checked_tried t valid n prices (eqb (length stamps) (prices / 4)) right sheet) ≡ v) where
+  abbrev as_feed : List Tried
+  as_feed = next_after BadThreshold (bad_layer valid ∷ []) (next_after BrokenBars (broken_bars (eqb (length stamps) (prices / 4)) ∷ []) (feed_tried t n right prices sheet))
 
-  as-feed : firstTrue asFeed ≡ v
-  unfolding checkedTried feedTried nextAfter firstTrue
+  as-feed : first_true as_feed ≡ v
+  unfolding checked_tried feed_tried next_after first_true
   as-feed = e
 
-  pub run-checked : (h : Hours) (last : LastStamp) → runTried t valid h last n right prices stamps sheet ≡ thenTried v (firstTrue (stampsTried h last stamps))
-  unfolding runTried
-  run-checked h last = first-append asFeed (stampsTried h last stamps) ∙ rw as-feed
+  pub run-checked : (h : Hours) (last : LastStamp) → run_tried t valid h last n right prices stamps sheet ≡ then_tried v (first_true (stamps_tried h last stamps))
+  unfolding run_tried
+  run-checked h last = first-append as_feed (stamps_tried h last stamps) ∙ rw as-feed
 
   pub checked-layer : v ≡ Accepted → valid ≡ true
-  unfolding checkedTried feedTried nextAfter
+  unfolding checked_tried feed_tried next_after
   checked-layer a = not-false _ (none_true _ _ (none_true _ _ (e ∙ a)).1).0
 
 -- ---- what an accepted call meets
 
 -- the layer's hours, term length and carried bar keep the rules
 pub record LayerMeets (h : Hours) (m : ℕ) (c : Carried) : Type 0 where
-  pub hours : validHours h ≡ true
-  pub minutes : termLength m ≡ true
-  pub carried : soundCarried h c.last c.pending ≡ true
+  pub hours : valid_hours h ≡ true
+  pub minutes : term_length m ≡ true
+  pub carried : sound_carried h c.last c.pending ≡ true
 
-pub layer-meets : (h : Hours) (m : ℕ) (c : Carried) → validLayer h m c ≡ true → LayerMeets h m c
-unfolding validLayer
+pub layer-meets : (h : Hours) (m : ℕ) (c : Carried) → valid_layer h m c ≡ true → LayerMeets h m c
+unfolding valid_layer
 layer-meets h m c e =
-    let outer = both (validHours h && termLength m) (soundCarried h c.last c.pending) e in
-    let inner = both (validHours h) (termLength m) outer.0 in
+    let outer = both (valid_hours h && term_length m) (sound_carried h c.last c.pending) e in
+    let inner = both (valid_hours h) (term_length m) outer.0 in
     record { hours = inner.0; minutes = inner.1; carried = outer.1 }
 
 pub record RunMeets (t : Thresholds) (h : Hours) (m : ℕ) (c : Carried) (n : ℕ) (right : Bool) (prices : ℕ) (stamps : List ℕ) (sheet : ℕ) : Type 0 where
   pub layer : LayerMeets h m c
   pub one_each : length stamps ≡ prices / 4
-  pub feed : feedVerdict t n right prices sheet ≡ Accepted
-  pub rising : firstTrue (stampsTried h c.last stamps) ≡ Accepted
+  pub feed : feed_verdict t n right prices sheet ≡ Accepted
+  pub rising : first_true (stamps_tried h c.last stamps) ≡ Accepted
 
 pub run-meets : (t : Thresholds) (h : Hours) (m : ℕ) (c : Carried) (n : ℕ) (right : Bool) (prices : ℕ) (stamps : List ℕ) (sheet : ℕ)
-    → runVerdict t h m c n right prices stamps sheet ≡ Accepted → RunMeets t h m c n right prices stamps sheet
-unfolding runTried feedTried nextAfter
+    → run_verdict t h m c n right prices stamps sheet ≡ Accepted → RunMeets t h m c n right prices stamps sheet
+unfolding run_tried feed_tried next_after
 run-meets t h m c n right prices stamps sheet none =
     let three = none_true _ _ none in
     let twelve = none_true _ _ three.1 in
@@ -90,10 +90,10 @@ run-meets t h m c n right prices stamps sheet none =
 
 pub record CloseMeets (t : Thresholds) (h : Hours) (m : ℕ) (c : Carried) (n : ℕ) (right : Bool) (sheet : ℕ) : Type 0 where
   pub layer : LayerMeets h m c
-  pub feed : feedVerdict t n right 4 sheet ≡ Accepted
+  pub feed : feed_verdict t n right 4 sheet ≡ Accepted
 
-pub close-meets : (t : Thresholds) (h : Hours) (m : ℕ) (c : Carried) (n : ℕ) (right : Bool) (sheet : ℕ) → closeVerdict t h m c n right sheet ≡ Accepted → CloseMeets t h m c n right sheet
-unfolding closeTried feedTried nextAfter
+pub close-meets : (t : Thresholds) (h : Hours) (m : ℕ) (c : Carried) (n : ℕ) (right : Bool) (sheet : ℕ) → close_verdict t h m c n right sheet ≡ Accepted → CloseMeets t h m c n right sheet
+unfolding close_tried feed_tried next_after
 close-meets t h m c n right sheet none =
     let three = none_true _ _ none in
     let twelve = none_true _ _ three.1 in

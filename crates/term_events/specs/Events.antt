@@ -1,12 +1,12 @@
 -- 02, P6: term bars from a list of events, each a bar with its stamp or a close, as a plain definition on lists.
 use Rattle.std.specs.Prelude.{ℕ, ◌≡◌, Bool, true, false, cond}
 use mathlib.Core.List.{List, [], ◌∷◌, ◌++◌, foldl, map, Memᴰ}
-use Rattle.measures.specs.Bar.{Bar, barOf, noBar}
-use Rattle.measures.specs.Price.{max_of, minOf}
+use Rattle.measures.specs.Bar.{Bar, bar_of, no_bar}
+use Rattle.measures.specs.Price.{max_of, min_of}
 use Rattle.measures.specs.declared.folds.Column.TheVariants.{Close as CloseOf, High, Low}
-use Rattle.measures.specs.Fold.{columnOf}
+use Rattle.measures.specs.Fold.{column_of}
 use Rattle.trading_hours.specs.declared.hours.Hours.{Hours}
-use Rattle.trading_hours.specs.Hours.{termOf, sameTerm}
+use Rattle.trading_hours.specs.Hours.{term_of, same_term}
 use Rattle.term_events.specs.declared.events.{LastStamp.LastStamp, OpenBar.OpenBar, OpenBar.TheVariants.Nothing, OpenBar.TheVariants.Begun, Carried.Carried, Step.Step}
 use Rattle.term_events.specs.declared.events.LastStamp.TheVariants.{Never, At}
 
@@ -16,124 +16,124 @@ pub data Event : Type 0 where
 
 -- ---- what is carried from one event to the next: the stamp of the last bar, and the open term bar
 
-abbrev pub carriedWith : LastStamp → OpenBar → Carried
-carriedWith last pending = record { last = last; pending = pending }
+abbrev pub carried_with : LastStamp → OpenBar → Carried
+carried_with last pending = record { last = last; pending = pending }
 
 -- nothing came yet
-abbrev pub nothingYet : Carried
-nothingYet = carriedWith Never Nothing
+abbrev pub nothing_yet : Carried
+nothing_yet = carried_with Never Nothing
 
 -- whether a stamp lies in the term of the last one; accepted stamps rise, so another term is a later one
-unfoldable pub inTermOf : Hours → ℕ → LastStamp → ℕ → Bool
-inTermOf h m Never stamp = false
-inTermOf h m (At last) stamp = sameTerm (termOf h m last) (termOf h m stamp)
+unfoldable pub in_term_of : Hours → ℕ → LastStamp → ℕ → Bool
+in_term_of h m Never stamp = false
+in_term_of h m (At last) stamp = same_term (term_of h m last) (term_of h m stamp)
 
 -- ---- one event
 
 -- "first open, last close, and highest and lowest by 01's max and min, begun with its first bar's": a term's bar with the term's next bar
-unfoldable pub joinedBar : Bar → Bar → Bar
-joinedBar a b = barOf a.«open» b.close (max_of a.high b.high) (minOf a.low b.low)
+unfoldable pub joined_bar : Bar → Bar → Bar
+joined_bar a b = bar_of a.«open» b.close (max_of a.high b.high) (min_of a.low b.low)
 
 -- the open term bar after a bar came, by whether the bar is of its term
 abbrev pub opened : OpenBar → Bool → Bar → OpenBar
 opened Nothing same b = Begun b
-opened (Begun a) true b = Begun (joinedBar a b)
+opened (Begun a) true b = Begun (joined_bar a b)
 opened (Begun a) false b = Begun b
 
 -- the term bar that the bar ended: "A term ends when a bar of a later one arrives"
-abbrev pub endedBy : OpenBar → Bool → OpenBar
-endedBy Nothing same = Nothing
-endedBy (Begun a) true = Nothing
-endedBy (Begun a) false = Begun a
+abbrev pub ended_by : OpenBar → Bool → OpenBar
+ended_by Nothing same = Nothing
+ended_by (Begun a) true = Nothing
+ended_by (Begun a) false = Begun a
 
 -- one bar, by whether it is of the term of the last one
-abbrev pub stepBy : Bool → Carried → ℕ → Bar → Step
-stepBy same c stamp b = record { ended = endedBy c.pending same; carried = carriedWith (At stamp) (opened c.pending same b) }
+abbrev pub step_by : Bool → Carried → ℕ → Bar → Step
+step_by same c stamp b = record { ended = ended_by c.pending same; carried = carried_with (At stamp) (opened c.pending same b) }
 
-unfoldable pub minuteStep : Hours → ℕ → Carried → ℕ → Bar → Step
-minuteStep h m c stamp b = stepBy (inTermOf h m c.last stamp) c stamp b
+unfoldable pub minute_step : Hours → ℕ → Carried → ℕ → Bar → Step
+minute_step h m c stamp b = step_by (in_term_of h m c.last stamp) c stamp b
 
 -- one bar or none: "Terms without a bar give none"
-abbrev pub openBars : OpenBar → List Bar
-openBars Nothing = []
-openBars (Begun b) = b ∷ []
+abbrev pub open_bars : OpenBar → List Bar
+open_bars Nothing = []
+open_bars (Begun b) = b ∷ []
 
 -- what an event ends, and what is carried on after it: "or the caller closes the day". A close keeps the stamp and leaves nothing open, so that
 -- "a bar that comes after a close within its own term begins a term bar of its own"
-abbrev pub endedAt : Hours → ℕ → Carried → Event → List Bar
-endedAt h m c (Minute stamp b) = openBars (minuteStep h m c stamp b).ended
-endedAt h m c Close = openBars c.pending
+abbrev pub ended_at : Hours → ℕ → Carried → Event → List Bar
+ended_at h m c (Minute stamp b) = open_bars (minute_step h m c stamp b).ended
+ended_at h m c Close = open_bars c.pending
 
-abbrev pub carriedAt : Hours → ℕ → Carried → Event → Carried
-carriedAt h m c (Minute stamp b) = (minuteStep h m c stamp b).carried
-carriedAt h m c Close = carriedWith c.last Nothing
+abbrev pub carried_at : Hours → ℕ → Carried → Event → Carried
+carried_at h m c (Minute stamp b) = (minute_step h m c stamp b).carried
+carried_at h m c Close = carried_with c.last Nothing
 
 -- ---- a list of events: the term bars that end in it, and what is left
 
 unfoldable pub ended_of : Hours → ℕ → Carried → List Event → List Bar
 ended_of h m c [] = []
-ended_of h m c (e ∷ es) = endedAt h m c e ++ ended_of h m (carriedAt h m c e) es
+ended_of h m c (e ∷ es) = ended_at h m c e ++ ended_of h m (carried_at h m c e) es
 
 unfoldable pub carried_of : Hours → ℕ → Carried → List Event → Carried
 carried_of h m c [] = c
-carried_of h m c (e ∷ es) = carried_of h m (carriedAt h m c e) es
+carried_of h m c (e ∷ es) = carried_of h m (carried_at h m c e) es
 
 -- the stamp of the last bar in a list of events after a last stamp; a close leaves it
-unfoldable pub stampAfter : LastStamp → List Event → LastStamp
-stampAfter last [] = last
-stampAfter last (Minute stamp b ∷ es) = stampAfter (At stamp) es
-stampAfter last (Close ∷ es) = stampAfter last es
+unfoldable pub stamp_after : LastStamp → List Event → LastStamp
+stamp_after last [] = last
+stamp_after last (Minute stamp b ∷ es) = stamp_after (At stamp) es
+stamp_after last (Close ∷ es) = stamp_after last es
 
 -- the stamps of its bars
-unfoldable pub stampsIn : List Event → List ℕ
-stampsIn [] = []
-stampsIn (Minute stamp b ∷ es) = stamp ∷ stampsIn es
-stampsIn (Close ∷ es) = stampsIn es
+unfoldable pub stamps_in : List Event → List ℕ
+stamps_in [] = []
+stamps_in (Minute stamp b ∷ es) = stamp ∷ stamps_in es
+stamps_in (Close ∷ es) = stamps_in es
 
 -- the events of a run: one stamp a bar
-unfoldable pub minutesOf : List ℕ → List Bar → List Event
-minutesOf [] bars = []
-minutesOf (s ∷ ss) [] = []
-minutesOf (s ∷ ss) (b ∷ bars) = Minute s b ∷ minutesOf ss bars
+unfoldable pub minutes_of : List ℕ → List Bar → List Event
+minutes_of [] bars = []
+minutes_of (s ∷ ss) [] = []
+minutes_of (s ∷ ss) (b ∷ bars) = Minute s b ∷ minutes_of ss bars
 
 -- ---- the same by the bars of each term, kept as lists with their stamps: what the bar of a term is made of
 
 -- the bar of a term's bars, oldest first: the first open, the last close, and 01's folds of the highs and lows, begun with the first bar's own
-unfoldable pub termBar : List (ℕ × Bar) → Bar
-termBar [] = noBar
-termBar (x ∷ xs) =
+unfoldable pub term_bar : List (ℕ × Bar) → Bar
+term_bar [] = no_bar
+term_bar (x ∷ xs) =
     let b = x.1 in
     let bars = map (λ y. y.1) xs in
-    barOf b.«open» (foldl (λ p q. q) b.close (columnOf CloseOf bars)) (foldl max_of b.high (columnOf High bars)) (foldl minOf b.low (columnOf Low bars))
+    bar_of b.«open» (foldl (λ p q. q) b.close (column_of CloseOf bars)) (foldl max_of b.high (column_of High bars)) (foldl min_of b.low (column_of Low bars))
 
 -- the bars of a term, unless there is none
-abbrev pub termIn : List (ℕ × Bar) → List (List (ℕ × Bar))
-termIn [] = []
-termIn (x ∷ xs) = (x ∷ xs) ∷ []
+abbrev pub term_in : List (ℕ × Bar) → List (List (ℕ × Bar))
+term_in [] = []
+term_in (x ∷ xs) = (x ∷ xs) ∷ []
 
 -- the bars of each term that ends in a list of events, after a last stamp and the bars of an open term
-unfoldable pub endedTerms : Hours → ℕ → LastStamp → List (ℕ × Bar) → List Event → List (List (ℕ × Bar))
-endedTerms h m last bars [] = []
-endedTerms h m last bars (Minute s b ∷ es) =
-    cond (inTermOf h m last s) (endedTerms h m (At s) (bars ++ ((s, b) ∷ [])) es) (termIn bars ++ endedTerms h m (At s) ((s, b) ∷ []) es)
-endedTerms h m last bars (Close ∷ es) = termIn bars ++ endedTerms h m last [] es
+unfoldable pub ended_terms : Hours → ℕ → LastStamp → List (ℕ × Bar) → List Event → List (List (ℕ × Bar))
+ended_terms h m last bars [] = []
+ended_terms h m last bars (Minute s b ∷ es) =
+    cond (in_term_of h m last s) (ended_terms h m (At s) (bars ++ ((s, b) ∷ [])) es) (term_in bars ++ ended_terms h m (At s) ((s, b) ∷ []) es)
+ended_terms h m last bars (Close ∷ es) = term_in bars ++ ended_terms h m last [] es
 
 -- and the bars of the term that is left open
-unfoldable pub openTerm : Hours → ℕ → LastStamp → List (ℕ × Bar) → List Event → List (ℕ × Bar)
-openTerm h m last bars [] = bars
-openTerm h m last bars (Minute s b ∷ es) = openTerm h m (At s) (cond (inTermOf h m last s) (bars ++ ((s, b) ∷ [])) ((s, b) ∷ [])) es
-openTerm h m last bars (Close ∷ es) = openTerm h m last [] es
+unfoldable pub open_term : Hours → ℕ → LastStamp → List (ℕ × Bar) → List Event → List (ℕ × Bar)
+open_term h m last bars [] = bars
+open_term h m last bars (Minute s b ∷ es) = open_term h m (At s) (cond (in_term_of h m last s) (bars ++ ((s, b) ∷ [])) ((s, b) ∷ [])) es
+open_term h m last bars (Close ∷ es) = open_term h m last [] es
 
-abbrev pub openOf : List (ℕ × Bar) → OpenBar
-openOf [] = Nothing
-openOf (x ∷ xs) = Begun (termBar (x ∷ xs))
+abbrev pub open_of : List (ℕ × Bar) → OpenBar
+open_of [] = Nothing
+open_of (x ∷ xs) = Begun (term_bar (x ∷ xs))
 
 -- any two of some bars lie in one and the same term, by their stamps (List.Memᴰ: is one of)
 abbrev pub OneTerm : Hours → ℕ → List (ℕ × Bar) → Type 0
-OneTerm h m bars = (x y : ℕ × Bar) → Memᴰ x bars → Memᴰ y bars → termOf h m x.0 ≡ termOf h m y.0
+OneTerm h m bars = (x y : ℕ × Bar) → Memᴰ x bars → Memᴰ y bars → term_of h m x.0 ≡ term_of h m y.0
 
 -- for every list of events: each ended term bar and the open one is the bar of its term's bars, which lie in one term; a close can cut a term in two
 pub record TermBars : Type 0 where
-  pub ended : (h : Hours) (m : ℕ) (es : List Event) → ended_of h m nothingYet es ≡ map termBar (endedTerms h m Never [] es)
-  pub left : (h : Hours) (m : ℕ) (es : List Event) → (carried_of h m nothingYet es).pending ≡ openOf (openTerm h m Never [] es)
-  pub one-term : (h : Hours) (m : ℕ) (es : List Event) (bars : List (ℕ × Bar)) → Memᴰ bars (openTerm h m Never [] es ∷ endedTerms h m Never [] es) → OneTerm h m bars
+  pub ended : (h : Hours) (m : ℕ) (es : List Event) → ended_of h m nothing_yet es ≡ map term_bar (ended_terms h m Never [] es)
+  pub left : (h : Hours) (m : ℕ) (es : List Event) → (carried_of h m nothing_yet es).pending ≡ open_of (open_term h m Never [] es)
+  pub one-term : (h : Hours) (m : ℕ) (es : List Event) (bars : List (ℕ × Bar)) → Memᴰ bars (open_term h m Never [] es ∷ ended_terms h m Never [] es) → OneTerm h m bars

@@ -3,22 +3,22 @@ use Rattle.std.specs.Prelude.{ℕ, ◌/◌, Bool, true, false, ◌&&◌, List, [
 use Rattle.recognisers.specs.Threshold.{Thresholds}
 use Rattle.answers.specs.declared.refusals.Refusal.TheVariants.{BadThreshold, BrokenBars}
 use Rattle.answers.specs.declared.refusals.Verdict.{Verdict}
-use Rattle.recognisers.specs.Refusal.{Tried, badThreshold, brokenBars, lateStamp, outsideHours, badLayer, firstTrue, nextAfter, feedTried}
+use Rattle.recognisers.specs.Refusal.{Tried, bad_threshold, broken_bars, late_stamp, outside_hours, bad_layer, first_true, next_after, feed_tried}
 use Rattle.trading_hours.specs.declared.hours.Hours.{Hours}
-use Rattle.trading_hours.specs.Hours.{validHours, inHours, termLength}
+use Rattle.trading_hours.specs.Hours.{valid_hours, in_hours, term_length}
 use Rattle.term_events.specs.declared.events.{LastStamp.LastStamp, OpenBar.OpenBar, OpenBar.TheVariants.Nothing, OpenBar.TheVariants.Begun, Carried.Carried}
 use Rattle.term_events.specs.declared.events.LastStamp.TheVariants.{Never, At}
-use Rattle.term_events.specs.Events.{nothingYet}
+use Rattle.term_events.specs.Events.{nothing_yet}
 
 -- a kept stamp lies in the hours; an open term bar has a stamp
-unfoldable pub soundCarried : Hours → LastStamp → OpenBar → Bool
-soundCarried h Never Nothing = true
-soundCarried h Never (Begun b) = false
-soundCarried h (At s) pending = inHours h s
+unfoldable pub sound_carried : Hours → LastStamp → OpenBar → Bool
+sound_carried h Never Nothing = true
+sound_carried h Never (Begun b) = false
+sound_carried h (At s) pending = in_hours h s
 
 -- "hours, a term length or a kept stamp that break these rules, or an open term bar without a stamp" are 12's
-unfoldable pub validLayer : Hours → ℕ → Carried → Bool
-validLayer h m c = validHours h && termLength m && soundCarried h c.last c.pending
+unfoldable pub valid_layer : Hours → ℕ → Carried → Bool
+valid_layer h m c = valid_hours h && term_length m && sound_carried h c.last c.pending
 
 -- a stamp is above the one before it, in this call or an earlier one
 unfoldable pub above : LastStamp → ℕ → Bool
@@ -26,29 +26,29 @@ above Never stamp = true
 above (At last) stamp = ltb last stamp
 
 -- "bar by bar": 10, "next for the same bar" 11
-unfoldable pub stampsTried : Hours → LastStamp → List ℕ → List Tried
-stampsTried h last [] = []
-stampsTried h last (s ∷ ss) = lateStamp (above last s) ∷ outsideHours (inHours h s) ∷ stampsTried h (At s) ss
+unfoldable pub stamps_tried : Hours → LastStamp → List ℕ → List Tried
+stamps_tried h last [] = []
+stamps_tried h last (s ∷ ss) = late_stamp (above last s) ∷ outside_hours (in_hours h s) ∷ stamps_tried h (At s) ss
 
 -- making tries 3 and 12
-unfoldable pub makeVerdict : Thresholds → Hours → ℕ → Verdict
-makeVerdict t h m = firstTrue (badThreshold t ∷ badLayer (validLayer h m nothingYet) ∷ [])
+unfoldable pub make_verdict : Thresholds → Hours → ℕ → Verdict
+make_verdict t h m = first_true (bad_threshold t ∷ bad_layer (valid_layer h m nothing_yet) ∷ [])
 
 -- "A run is checked as a feed of that many bars .., with 4 also for another number of stamps than bars", 12 "next after 3", and 10 and 11 "after 6".
 -- valid says that the layer keeps the rules, last is the last stamp, n the box's count, right that what it holds is that of its bars, prices and
 -- sheet how many there are
-unfoldable pub runTried : Thresholds → Bool → Hours → LastStamp → ℕ → Bool → ℕ → List ℕ → ℕ → Verdict
-runTried t valid h last n right prices stamps sheet =
-    let another = brokenBars (eqb (length stamps) (prices / 4)) in
-    firstTrue (nextAfter BadThreshold (badLayer valid ∷ []) (nextAfter BrokenBars (another ∷ []) (feedTried t n right prices sheet)) ++ stampsTried h last stamps)
+unfoldable pub run_tried : Thresholds → Bool → Hours → LastStamp → ℕ → Bool → ℕ → List ℕ → ℕ → Verdict
+run_tried t valid h last n right prices stamps sheet =
+    let another = broken_bars (eqb (length stamps) (prices / 4)) in
+    first_true (next_after BadThreshold (bad_layer valid ∷ []) (next_after BrokenBars (another ∷ []) (feed_tried t n right prices sheet)) ++ stamps_tried h last stamps)
 
 -- ".. and a close as a feed of one", open bar or not
-unfoldable pub closeTried : Thresholds → Bool → ℕ → Bool → ℕ → Verdict
-closeTried t valid n right sheet = firstTrue (nextAfter BadThreshold (badLayer valid ∷ []) (feedTried t n right 4 sheet))
+unfoldable pub close_tried : Thresholds → Bool → ℕ → Bool → ℕ → Verdict
+close_tried t valid n right sheet = first_true (next_after BadThreshold (bad_layer valid ∷ []) (feed_tried t n right 4 sheet))
 
 -- as a layer that is handed in has it
-abbrev pub runVerdict : Thresholds → Hours → ℕ → Carried → ℕ → Bool → ℕ → List ℕ → ℕ → Verdict
-runVerdict t h m c n right prices stamps sheet = runTried t (validLayer h m c) h c.last n right prices stamps sheet
+abbrev pub run_verdict : Thresholds → Hours → ℕ → Carried → ℕ → Bool → ℕ → List ℕ → ℕ → Verdict
+run_verdict t h m c n right prices stamps sheet = run_tried t (valid_layer h m c) h c.last n right prices stamps sheet
 
-abbrev pub closeVerdict : Thresholds → Hours → ℕ → Carried → ℕ → Bool → ℕ → Verdict
-closeVerdict t h m c n right sheet = closeTried t (validLayer h m c) n right sheet
+abbrev pub close_verdict : Thresholds → Hours → ℕ → Carried → ℕ → Bool → ℕ → Verdict
+close_verdict t h m c n right sheet = close_tried t (valid_layer h m c) n right sheet

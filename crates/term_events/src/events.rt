@@ -1,8 +1,8 @@
 // Term bars from minute bars, one after the other.
 ghost use Rattle.std.specs.Prelude.{◌≡◌, ltb, length, drop};
-ghost use Rattle.measures.specs.Bar.{barsOf};
-ghost use Rattle.term_events.specs.Events.{joinedBar, stepBy, openBars};
-ghost use Rattle.term_events.specs.EventSteps.{endAfter, nextEnd, insideBy, someIn, putEnded, passOf};
+ghost use Rattle.measures.specs.Bar.{bars_of};
+ghost use Rattle.term_events.specs.Events.{joined_bar, step_by, open_bars};
+ghost use Rattle.term_events.specs.EventSteps.{end_after, next_end, inside_by, some_in, put_ended, pass_of};
 
 use measures::{Bar, max, min};
 use trading_hours::{Hours, hours};
@@ -37,7 +37,7 @@ struct Step {
 
 // A term's bar with the next bar of the term.
 fn join(a: Bar, b: Bar) -> Bar
-    ensures { result ≡ joinedBar a b }
+    ensures { result ≡ joined_bar a b }
 {
     Bar {
         open: a.open,
@@ -49,7 +49,7 @@ fn join(a: Bar, b: Bar) -> Bar
 
 // The end of the term of the last stamp.
 pub(crate) fn end_after(h: Hours, m: u32, last: LastStamp) -> usize
-    ensures { result ≡ endAfter h m last }
+    ensures { result ≡ end_after h m last }
 {
     match last {
         LastStamp::Never => 0,
@@ -59,7 +59,7 @@ pub(crate) fn end_after(h: Hours, m: u32, last: LastStamp) -> usize
 
 // The end of the term of a stamp above the last one, whose term's end is this: divisions happen once a term.
 pub(crate) fn next_end(h: Hours, m: u32, end: usize, stamp: u32) -> usize
-    ensures { result ≡ nextEnd h m end stamp }
+    ensures { result ≡ next_end h m end stamp }
 {
     if (stamp as usize) < end {
         return end;
@@ -69,7 +69,7 @@ pub(crate) fn next_end(h: Hours, m: u32, end: usize, stamp: u32) -> usize
 
 // Whether a stamp above the last one, whose term's end is this, lies in the hours.
 pub(crate) fn is_inside(h: Hours, end: usize, stamp: u32) -> bool
-    ensures { result ≡ insideBy h end stamp }
+    ensures { result ≡ inside_by h end stamp }
 {
     if (stamp as usize) < end {
         return true;
@@ -79,7 +79,7 @@ pub(crate) fn is_inside(h: Hours, end: usize, stamp: u32) -> bool
 
 // One bar, which is of the open term if its stamp lies before this end.
 fn step_by(c: Carried, end: usize, stamp: u32, b: Bar) -> Step
-    ensures { result ≡ stepBy (ltb stamp end) c stamp b }
+    ensures { result ≡ step_by (ltb stamp end) c stamp b }
 {
     let pending = c.pending;
     match pending {
@@ -113,7 +113,7 @@ fn step_by(c: Carried, end: usize, stamp: u32, b: Bar) -> Step
 
 // Whether a term bar ended.
 fn has_ended(ended: OpenBar) -> bool
-    ensures { result ≡ someIn ended }
+    ensures { result ≡ some_in ended }
 {
     match ended {
         OpenBar::Nothing => false,
@@ -123,7 +123,7 @@ fn has_ended(ended: OpenBar) -> bool
 
 // The prices of an ended term bar go to a place of a run, if there is room; the answer is how many bars ended.
 fn put_ended(ended: OpenBar, run: &mut [f64], place: usize) -> usize
-    ensures { (result ≡ length (openBars ended)) × (run.new ≡ putEnded run.old place ended) }
+    ensures { (result ≡ length (open_bars ended)) × (run.new ≡ put_ended run.old place ended) }
 {
     match ended {
         OpenBar::Nothing => 0,
@@ -153,7 +153,7 @@ pub fn pass(
     from: usize,
     run: &mut [f64],
 ) -> Passed
-    ensures { let left = passOf h m (barsOf prices.now) c (endAfter h m c.last) from 0 run.old (drop from stamps.now) in
+    ensures { let left = pass_of h m (bars_of prices.now) c (end_after h m c.last) from 0 run.old (drop from stamps.now) in
         (result ≡ left.0) × (run.new ≡ left.1) }
 {
     let room = run.len() / 4;

@@ -1,8 +1,8 @@
 // Why a making, a run or a close is refused.
 ghost use Rattle.std.specs.Prelude.{◌≡◌};
-ghost use Rattle.recognisers.specs.Refusal.{firstTrue};
-ghost use Rattle.term_events.specs.Verdicts.{soundCarried, validLayer, above, stampsTried, makeVerdict, runVerdict, closeVerdict};
-ghost use Rattle.term_events.specs.EventSteps.{endAfter, EndKnown};
+ghost use Rattle.recognisers.specs.Refusal.{first_true};
+ghost use Rattle.term_events.specs.Verdicts.{sound_carried, valid_layer, above, stamps_tried, make_verdict, run_verdict, close_verdict};
+ghost use Rattle.term_events.specs.EventSteps.{end_after, EndKnown};
 
 use crate::events;
 use crate::events::{Carried, LastStamp, OpenBar};
@@ -12,7 +12,7 @@ use trading_hours::{Hours, hours};
 
 // Whether a kept stamp lies in the hours and an open term bar has a stamp.
 fn sound(h: Hours, last: LastStamp, pending: OpenBar) -> bool
-    ensures { result ≡ soundCarried h last pending }
+    ensures { result ≡ sound_carried h last pending }
 {
     match last {
         LastStamp::At(s) => hours::in_hours(h, s),
@@ -25,7 +25,7 @@ fn sound(h: Hours, last: LastStamp, pending: OpenBar) -> bool
 
 // Whether refusal 12 is not true.
 fn layer_valid(h: Hours, m: u32, c: Carried) -> bool
-    ensures { result ≡ validLayer h m c }
+    ensures { result ≡ valid_layer h m c }
 {
     let last = c.last;
     let pending = c.pending;
@@ -34,7 +34,7 @@ fn layer_valid(h: Hours, m: u32, c: Carried) -> bool
 
 // The first of the refusals 3 and 12 that is true of a making.
 pub fn make_verdict(t: Thresholds, h: Hours, m: u32) -> Verdict
-    ensures { result ≡ makeVerdict t h m }
+    ensures { result ≡ make_verdict t h m }
 {
     let valid = t.is_valid();
     if !valid {
@@ -63,8 +63,8 @@ fn is_above(last: LastStamp, stamp: u32) -> bool
 
 // The first of the refusals 10 and 11 that is true of stamps, bar by bar.
 fn stamps_verdict(h: Hours, m: u32, before: LastStamp, stamps: &[u32]) -> Verdict
-    requires { EndKnown h m before (endAfter h m before) }
-    ensures { result ≡ firstTrue (stampsTried h before stamps.now) }
+    requires { EndKnown h m before (end_after h m before) }
+    ensures { result ≡ first_true (stamps_tried h before stamps.now) }
 {
     let mut last = before;
     let mut end = events::end_after(h, m, before);
@@ -97,7 +97,7 @@ pub fn run_verdict(
     stamps: &[u32],
     sheet: usize,
 ) -> Verdict
-    ensures { result ≡ runVerdict t h m c n right prices stamps.now sheet }
+    ensures { result ≡ run_verdict t h m c n right prices stamps.now sheet }
 {
     let layer = layer_valid(h, m, c);
     let one_each = stamps.len() == prices / 4;
@@ -120,7 +120,7 @@ pub fn close_verdict(
     right: bool,
     sheet: usize,
 ) -> Verdict
-    ensures { result ≡ closeVerdict t h m c n right sheet }
+    ensures { result ≡ close_verdict t h m c n right sheet }
 {
     let layer = layer_valid(h, m, c);
     checked(t, layer, n, 4, true, right, sheet)

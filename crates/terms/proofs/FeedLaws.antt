@@ -8,54 +8,54 @@ use borrow.Rule.Slice.PartMut.{put_mid}
 use lib.ListN.{length, take}
 use lib.Seq.{length-take-le}
 use lib.Ieee.{Float}
-use Rattle.measures.specs.Bar.{Bar, barsOf, overlay, pricesOf}
-use Rattle.recognisers.specs.Number.{rowBytes}
+use Rattle.measures.specs.Bar.{Bar, bars_of, overlay, prices_of}
+use Rattle.recognisers.specs.Number.{row_bytes}
 use Rattle.recognisers.specs.Threshold.{Thresholds}
 use Rattle.answers.specs.declared.refusals.Verdict.TheVariants.{Accepted}
 use Rattle.box_record.specs.declared.boxes.BarBox.{BarBox}
-use Rattle.recognisers.specs.Refusal.{feedVerdict}
-use Rattle.bar_box.specs.Box.{takenIn, verdictOf, fedOf, sheetOf}
+use Rattle.recognisers.specs.Refusal.{feed_verdict}
+use Rattle.bar_box.specs.Box.{taken_in, verdict_of, fed_of, sheet_of}
 use Rattle.measures.proofs.PriceLaws.{length-prices}
 use Rattle.bar_box.proofs.FeedSteps.{fits, accepts}
 use Rattle.bar_box.proofs.PartLaws.{rows_from, rest_of, length_rest, overlay-rest, fed-box, fed-sheet}
 
 -- ---- some of the bars of an accepted feed
 
-module _ (t : Thresholds) (n : ℕ) (right : Bool) (prices sheet : ℕ) (e : feedVerdict t n right prices sheet ≡ Accepted) where
+module _ (t : Thresholds) (n : ℕ) (right : Bool) (prices sheet : ℕ) (e : feed_verdict t n right prices sheet ≡ Accepted) where
   -- a feed of no more bars is accepted, if there is room for their rows
-  pub fewer-accepted : (k p s : ℕ) → p % 4 ≡ 0 → k + p / 4 ≤ n + prices / 4 → rowBytes * (p / 4) ≤ s → feedVerdict t k right p s ≡ Accepted
+  pub fewer-accepted : (k p s : ℕ) → p % 4 ≡ 0 → k + p / 4 ≤ n + prices / 4 → row_bytes * (p / 4) ≤ s → feed_verdict t k right p s ≡ Accepted
   fewer-accepted k p s whole few room =
       let f = fits _ _ _ _ _ e in
       accepts _ _ _ _ _ (record { valid = f.valid; whole = whole; few = omega (arith, f.few); right-box = f.right-box; room = room })
 
   -- after i bars k more
-  pub some-accepted : (i k : ℕ) → i + k ≤ prices / 4 → feedVerdict t (n + i) right (4 * k) (rowBytes * k) ≡ Accepted
-  some-accepted i k le = fewer-accepted (n + i) (4 * k) (rowBytes * k) (omega arith) (omega arith) (omega arith)
+  pub some-accepted : (i k : ℕ) → i + k ≤ prices / 4 → feed_verdict t (n + i) right (4 * k) (row_bytes * k) ≡ Accepted
+  some-accepted i k le = fewer-accepted (n + i) (4 * k) (row_bytes * k) (omega arith) (omega arith) (omega arith)
 
   -- there is room for their rows
-  pub some-room : (i k : ℕ) → i + k ≤ prices / 4 → rowBytes * (i + k) ≤ sheet
+  pub some-room : (i k : ℕ) → i + k ≤ prices / 4 → row_bytes * (i + k) ≤ sheet
   some-room i k le = omega (arith, (fits _ _ _ _ _ e).room)
 
   -- on the same sheet
-  pub bars-accepted : (bars : List Bar) → length bars ≤ prices / 4 → feedVerdict t n right (length (pricesOf bars)) sheet ≡ Accepted
+  pub bars-accepted : (bars : List Bar) → length bars ≤ prices / 4 → feed_verdict t n right (length (prices_of bars)) sheet ≡ Accepted
   bars-accepted bars le =
       let four = length-prices bars in
-      fewer-accepted n (length (pricesOf bars)) sheet (omega arith) (omega arith) (omega (arith, (fits _ _ _ _ _ e).room))
+      fewer-accepted n (length (prices_of bars)) sheet (omega arith) (omega arith) (omega (arith, (fits _ _ _ _ _ e).room))
 
 -- ---- one feed of the first n bars of a run, on the sheet from a row on
 
-module _ (b : BarBox) (ps : List Float) (n : ℕ) (s : List ℕ) (row : ℕ) (e : verdictOf b (4 * n) (rowBytes * n) ≡ Accepted) (enough : 4 * n ≤ length ps) (room : rowBytes * (row + n) ≤ length s) where
-  front-accepted : verdictOf b (length (take (4 * n) ps)) (length (rest_of s (rowBytes * row))) ≡ Accepted
+module _ (b : BarBox) (ps : List Float) (n : ℕ) (s : List ℕ) (row : ℕ) (e : verdict_of b (4 * n) (row_bytes * n) ≡ Accepted) (enough : 4 * n ≤ length ps) (room : row_bytes * (row + n) ≤ length s) where
+  front-accepted : verdict_of b (length (take (4 * n) ps)) (length (rest_of s (row_bytes * row))) ≡ Accepted
   front-accepted =
       let size = length-take-le (4 * n) ps enough in
-      let rest = length_rest s (rowBytes * row) in
+      let rest = length_rest s (row_bytes * row) in
       fewer-accepted _ _ _ _ _ e _ _ _ (omega arith) (omega arith) (omega arith)
 
-  pub front-box : (fedOf b (take (4 * n) ps) (length (rest_of s (rowBytes * row)))).after ≡ takenIn b (barsOf (take (4 * n) ps))
-  front-box = fed-box b (take (4 * n) ps) (rest_of s (rowBytes * row)) front-accepted
+  pub front-box : (fed_of b (take (4 * n) ps) (length (rest_of s (row_bytes * row)))).after ≡ taken_in b (bars_of (take (4 * n) ps))
+  front-box = fed-box b (take (4 * n) ps) (rest_of s (row_bytes * row)) front-accepted
 
-  pub front-sheet : put_mid (rowBytes * row) (length s - rowBytes * row) s (sheetOf b (take (4 * n) ps) (rest_of s (rowBytes * row)))
-      ≡ overlay s (rowBytes * row) (rows_from b (barsOf (take (4 * n) ps)))
+  pub front-sheet : put_mid (row_bytes * row) (length s - row_bytes * row) s (sheet_of b (take (4 * n) ps) (rest_of s (row_bytes * row)))
+      ≡ overlay s (row_bytes * row) (rows_from b (bars_of (take (4 * n) ps)))
   front-sheet =
-      rw (fed-sheet b (take (4 * n) ps) (rest_of s (rowBytes * row)) front-accepted)
-      (overlay-rest s (rowBytes * row) (rows_from b (barsOf (take (4 * n) ps))))
+      rw (fed-sheet b (take (4 * n) ps) (rest_of s (row_bytes * row)) front-accepted)
+      (overlay-rest s (row_bytes * row) (rows_from b (bars_of (take (4 * n) ps))))

@@ -6,10 +6,10 @@ use mathlib.Core.List.{List, [], ◌∷◌, ◌++◌, flatten, append-nil}
 use native.Mathlib.Omega.{arith}
 use native.Mathlib.Nat.{zero-add}
 use lib.ListN.{length, length-append}
-use Rattle.measures.specs.Bar.{Bar, pricesOf, barsOf}
-use Rattle.recognisers.specs.Threshold.{Thresholds, standardSet, valid_of}
+use Rattle.measures.specs.Bar.{Bar, prices_of, bars_of}
+use Rattle.recognisers.specs.Threshold.{Thresholds, standard_set, valid_of}
 use Rattle.answers.specs.declared.refusals.Verdict.{Verdict, TheVariants.Accepted, TheVariants.Denied}
-use Rattle.recognisers.specs.Number.{rowBytes}
+use Rattle.recognisers.specs.Number.{row_bytes}
 use Rattle.bar_box.specs.Sheet.{rows_of}
 use borrow.Author.Tests.{not-false}
 use Rattle.box_record.specs.declared.boxes.BarBox.{BarBox}
@@ -18,7 +18,7 @@ use Rattle.bar_box.specs.Calls.{after, each}
 use Rattle.bar_box.proofs.CallLists.{kept, built, after-follows, each-follows}
 use Rattle.bar_box.proofs.SheetLaws.{rows_append}
 use Rattle.bar_box.proofs.BoxLaws.{taken_none}
-use Rattle.bar_box.specs.History.{oneFeed, fed, historyAfter, verdictOn as boxVerdictOn, appended as boxAppended}
+use Rattle.bar_box.specs.History.{one_feed, fed, history_after, verdict_on as boxVerdictOn, appended as boxAppended}
 use Rattle.measures.proofs.PriceLaws.{length-prices, bars-prices}
 use Rattle.bar_box.proofs.Demand3.{standard-valid, fresh-none, demand-3}
 use Rattle.bar_box.proofs.FeedSteps.{none_true, fits, verdict-step as box-verdict}
@@ -26,14 +26,14 @@ use Rattle.bar_box.proofs.FeedLists.{Sound, sound_empty, one-accepted, one-box, 
 use Rattle.trading_hours.specs.declared.hours.Hours.{Hours}
 use Rattle.term_events.specs.declared.events.Carried.{Carried}
 use Rattle.terms.specs.declared.layers.Layer.{Layer}
-use Rattle.term_events.specs.Events.{Event, nothingYet, ended_of, carried_of, stampsIn}
-use Rattle.terms.specs.History.{Call, eventsIn, verdictOn, appended, eventsAfter, called, layerLeft, layerAfter, endedInCall, joinedEnded, rowsOfCall, joinedRows, Rising, Holds, NoneYet, TermCalls}
-use Rattle.trading_hours.specs.Hours.{mostWindows, windowsOf, withZeros, validHours, risingFrom, termLength}
+use Rattle.term_events.specs.Events.{Event, nothing_yet, ended_of, carried_of, stamps_in}
+use Rattle.terms.specs.History.{Call, events_in, verdict_on, appended, events_after, called, layer_left, layer_after, ended_in_call, joined_ended, rows_of_call, joined_rows, Rising, Holds, NoneYet, TermCalls}
+use Rattle.trading_hours.specs.Hours.{most_windows, windows_of, with_zeros, valid_hours, rising_from, term_length}
 use Rattle.trading_hours.proofs.HourLaws.{zeros-windows}
-use Rattle.term_events.specs.Verdicts.{soundCarried, validLayer, makeVerdict}
-use Rattle.terms.specs.Layer.{wholeDay, taken, madeBy, made_of}
+use Rattle.term_events.specs.Verdicts.{sound_carried, valid_layer, make_verdict}
+use Rattle.terms.specs.Layer.{whole_day, taken, made_by, made_of}
 use Rattle.term_events.proofs.EventLaws.{carried-last, ended-append}
-use Rattle.terms.proofs.CallSteps.{box-accepts, Kept, kept-none, kept_step, kept-rising, events-feed, layerOf, verdict-step, layer-step, rows_step}
+use Rattle.terms.proofs.CallSteps.{box-accepts, Kept, kept-none, kept_step, kept-rising, events-feed, layer_of, verdict-step, layer-step, rows_step}
 
 -- ---- one feed of bars to no history
 
@@ -42,9 +42,9 @@ none_left Accepted = refl
 none_left (Denied r) = refl
 
 -- it leaves the bars, if it is accepted where there is one
-whole : (t : Thresholds) (sheet : List ℕ) (bars : List Bar) → (1 ≤ length bars → boxVerdictOn t [] (oneFeed bars sheet) ≡ Accepted) → boxAppended t [] (oneFeed bars sheet) ≡ bars
-unfolding pricesOf barsOf
-whole t sheet [] p = none_left (boxVerdictOn t [] (oneFeed [] sheet))
+whole : (t : Thresholds) (sheet : List ℕ) (bars : List Bar) → (1 ≤ length bars → boxVerdictOn t [] (one_feed bars sheet) ≡ Accepted) → boxAppended t [] (one_feed bars sheet) ≡ bars
+unfolding prices_of bars_of
+whole t sheet [] p = none_left (boxVerdictOn t [] (one_feed [] sheet))
 whole t sheet (b ∷ bars) p = rw (p (omega arith)) (bars-prices (b ∷ bars))
 
 module _ (l : Layer) (start : NoneYet l) where
@@ -52,10 +52,10 @@ module _ (l : Layer) (start : NoneYet l) where
   t = l.inner.thresholds
 
   abbrev ended : List Event → List Bar
-  ended es = ended_of l.hours l.minutes nothingYet es
+  ended es = ended_of l.hours l.minutes nothing_yet es
 
   abbrev layer : List Event → Layer
-  layer es = layerOf l start.no-bars es
+  layer es = layer_of l start.no-bars es
 
   abbrev more : List Event → Call → List Event
   more es x = appended t l.hours l.minutes es x
@@ -66,7 +66,7 @@ module _ (l : Layer) (start : NoneYet l) where
   Follows : Layer → List Event → Type 0
   Follows x es = (x ≡ layer es) × Kept l start.no-bars es
 
-  follows : (x : Layer) (es : List Event) (c : Call) → Follows x es → Follows (layerLeft x c) (more es c)
+  follows : (x : Layer) (es : List Event) (c : Call) → Follows x es → Follows (layer_left x c) (more es c)
   unfolding Follows
   follows x es c r = (rw r.0 (layer-step l start.no-bars es c r.1), kept_step l start.no-bars es c r.1)
 
@@ -75,50 +75,50 @@ module _ (l : Layer) (start : NoneYet l) where
   unfolding Follows ended_of carried_of
   at-start = (rw (taken_none l.inner start.no-bars.all-places, ← start.nothing), kept-none l start.no-bars)
 
-  layer-after : (xs : List Call) → Follows (layerAfter l xs) (eventsAfter t l.hours l.minutes [] xs)
-  layer-after xs = after-follows layerLeft more Follows follows l [] xs at-start
+  layer-after : (xs : List Call) → Follows (layer_after l xs) (events_after t l.hours l.minutes [] xs)
+  layer-after xs = after-follows layer_left more Follows follows l [] xs at-start
 
   each_after : {A : Type 0} (gives : Layer → Call → A) (says : List Event → Call → A) → ((es : List Event) (x : Call) → Kept l start.no-bars es → gives (layer es) x ≡ says es x)
-      → (xs : List Call) → each layerLeft gives l xs ≡ each more says [] xs
+      → (xs : List Call) → each layer_left gives l xs ≡ each more says [] xs
   unfolding Follows
-  each_after gives says agree xs = each-follows layerLeft more Follows follows gives says (λ x es c r. rw r.0 (agree es c r.1)) l [] xs at-start
+  each_after gives says agree xs = each-follows layer_left more Follows follows gives says (λ x es c r. rw r.0 (agree es c r.1)) l [] xs at-start
 
   -- the term bars that end in a call, and their rows, by its verdict
   abbrev carried : List Event → Carried
-  carried es = carried_of l.hours l.minutes nothingYet es
+  carried es = carried_of l.hours l.minutes nothing_yet es
 
   abbrev on : List Event → Call → Verdict
-  on = verdictOn t l.hours l.minutes
+  on = verdict_on t l.hours l.minutes
 
-  abbrev endedOn : List Event → Call → List Bar
-  endedOn es x = leaves (on es x) [] (ended_of l.hours l.minutes (carried es) (eventsIn x))
+  abbrev ended_on : List Event → Call → List Bar
+  ended_on es x = leaves (on es x) [] (ended_of l.hours l.minutes (carried es) (events_in x))
 
-  abbrev rowsOn : List Event → Call → List ℕ
-  rowsOn es x = leaves (on es x) [] (rows_of t (length (ended es)) (ended es) (ended_of l.hours l.minutes (carried es) (eventsIn x)))
+  abbrev rows_on : List Event → Call → List ℕ
+  rows_on es x = leaves (on es x) [] (rows_of t (length (ended es)) (ended es) (ended_of l.hours l.minutes (carried es) (events_in x)))
 
   ended_by : (v : Verdict) (es new : List Event) → ended es ++ leaves v [] (ended_of l.hours l.minutes (carried es) new) ≡ ended (leaves v es (es ++ new))
-  ended_by Accepted es new = sym (ended-append l.hours l.minutes nothingYet es new)
+  ended_by Accepted es new = sym (ended-append l.hours l.minutes nothing_yet es new)
   ended_by (Denied r) es new = append-nil (ended es)
 
   rows-by : (v : Verdict) (es new : List Event)
       → rows_of t 0 [] (ended es) ++ leaves v [] (rows_of t (length (ended es)) (ended es) (ended_of l.hours l.minutes (carried es) new)) ≡ rows_of t 0 [] (ended (leaves v es (es ++ new)))
   rows-by Accepted es new =
-      rw (ended-append l.hours l.minutes nothingYet es new)
+      rw (ended-append l.hours l.minutes nothing_yet es new)
       (sym (rows_append t 0 [] (ended es) (ended_of l.hours l.minutes (carried es) new) ∙ rw zero-add))
   rows-by (Denied r) es new = append-nil (rows_of t 0 [] (ended es))
 
   -- ---- what the refusals see to
 
-  sound-by : (v : Verdict) (es : List Event) (x : Call) → verdictOn t l.hours l.minutes es x ≡ v → Kept l start.no-bars es → Sound t (ended es) → Sound t (ended (leaves v es (es ++ eventsIn x)))
+  sound-by : (v : Verdict) (es : List Event) (x : Call) → verdict_on t l.hours l.minutes es x ≡ v → Kept l start.no-bars es → Sound t (ended es) → Sound t (ended (leaves v es (es ++ events_in x)))
   sound-by Accepted es x e k s =
-      let c = carried_of l.hours l.minutes nothingYet es in
-      let new = ended_of l.hours l.minutes c (eventsIn x) in
+      let c = carried_of l.hours l.minutes nothing_yet es in
+      let new = ended_of l.hours l.minutes c (events_in x) in
       let met = fits _ _ _ _ _ (events-feed l start.no-bars es x k e) in
       let four = length-prices new in
-      rw (ended-append l.hours l.minutes nothingYet es (eventsIn x)) record { few = rw length-append (omega (arith, met.few)); valid = λ some. met.valid }
+      rw (ended-append l.hours l.minutes nothing_yet es (events_in x)) record { few = rw length-append (omega (arith, met.few)); valid = λ some. met.valid }
   sound-by (Denied r) es x e k s = s
 
-  sound-after : (xs : List Call) → Sound t (ended (eventsAfter t l.hours l.minutes [] xs))
+  sound-after : (xs : List Call) → Sound t (ended (events_after t l.hours l.minutes [] xs))
   unfolding ended_of
   sound-after xs =
       (kept more (λ es. Kept l start.no-bars es × Sound t (ended es)) (λ es x p. (kept_step l start.no-bars es x p.0, sound-by (on es x) es x refl p.0 p.1))
@@ -128,37 +128,37 @@ module _ (l : Layer) (start : NoneYet l) where
 
   module _ (xs : List Call) where
     abbrev events : List Event
-    events = eventsAfter t l.hours l.minutes [] xs
+    events = events_after t l.hours l.minutes [] xs
 
     -- no more than 1,000,000 term bars ended in it, and none if the thresholds are outside their limits
     ended-sound : Sound t (ended events)
     ended-sound = sound-after xs
 
     -- the layer is the one that the events leave
-    pub joined-layer : layerAfter l xs ≡ layer events
+    pub joined-layer : layer_after l xs ≡ layer events
     unfolding Follows
     joined-layer = (layer-after xs).0
 
-    events-rise : Rising l.hours l.minutes (stampsIn events)
+    events-rise : Rising l.hours l.minutes (stamps_in events)
     unfolding Follows
     events-rise = kept-rising l start.no-bars events (layer-after xs).1
 
     -- the rows are those of the term bars that ended in it
-    pub joined-rows : joinedRows l xs ≡ rows_of t 0 [] (ended events)
+    pub joined-rows : joined_rows l xs ≡ rows_of t 0 [] (ended events)
     unfolding rows_of ended_of
-    joined-rows = ap flatten (each_after rowsOfCall rowsOn (rows_step l start.no-bars) xs) ∙ built more (λ es. rows_of t 0 [] (ended es)) rowsOn (λ es x. rows-by (on es x) es (eventsIn x)) [] xs
+    joined-rows = ap flatten (each_after rows_of_call rows_on (rows_step l start.no-bars) xs) ∙ built more (λ es. rows_of t 0 [] (ended es)) rows_on (λ es x. rows-by (on es x) es (events_in x)) [] xs
 
     -- and end call by call
-    pub joined-ended : joinedEnded l xs ≡ ended events
+    pub joined-ended : joined_ended l xs ≡ ended events
     unfolding ended_of
-    joined-ended = ap flatten (each_after endedInCall endedOn (λ es x k. rw (verdict-step l start.no-bars es x k)) xs) ∙ built more ended endedOn (λ es x. ended_by (on es x) es (eventsIn x)) [] xs
+    joined-ended = ap flatten (each_after ended_in_call ended_on (λ es x k. rw (verdict-step l start.no-bars es x k)) xs) ∙ built more ended ended_on (λ es x. ended_by (on es x) es (events_in x)) [] xs
 
-    module _ (sheet : List ℕ) (room : rowBytes * length (ended events) ≤ length sheet) where
+    module _ (sheet : List ℕ) (room : row_bytes * length (ended events) ≤ length sheet) where
       -- one feed of them gives them for its history
-      one-history : historyAfter t [] (oneFeed (ended events) sheet ∷ []) ≡ ended events
+      one-history : history_after t [] (one_feed (ended events) sheet ∷ []) ≡ ended events
       unfolding after
       one-history =
-          let one = oneFeed (ended events) sheet in
+          let one = one_feed (ended events) sheet in
           let no-bars = start.no-bars in
           let same : (fed l.inner one).verdict ≡ boxVerdictOn t [] one = ap (λ (b : BarBox). (fed b one).verdict) (sym (taken_none l.inner no-bars.all-places)) ∙ box-verdict l.inner no-bars [] one in
           whole t sheet (ended events) (λ some. sym same ∙ one-accepted l.inner no-bars (ended events) sheet ended-sound room (ended-sound.valid some))
@@ -178,63 +178,63 @@ module _ (l : Layer) (start : NoneYet l) where
             same_rows = joined-rows ∙ sym (one-rows l.inner no-bars bars sheet sound room);
             same-box = ap (λ (x : Layer). x.inner) joined-layer ∙ sym (one-box l.inner no-bars bars sheet sound room);
             accepted = one-accepted l.inner no-bars bars sheet sound room;
-            demand-3 = rw one-history at (demand-3.holds l.inner no-bars (oneFeed bars sheet ∷ []) sheet (rw one-history room));
+            demand-3 = rw one-history at (demand-3.holds l.inner no-bars (one_feed bars sheet ∷ []) sheet (rw one-history room));
             -- (d)
             same-carried = ap (λ (x : Layer). x.carried) joined-layer;
-            same-stamp = ap (λ (x : Layer). x.carried.last) joined-layer ∙ carried-last l.hours l.minutes nothingYet events;
+            same-stamp = ap (λ (x : Layer). x.carried.last) joined-layer ∙ carried-last l.hours l.minutes nothing_yet events;
             same-hours = ap (λ (x : Layer). x.hours) joined-layer;
             same-minutes = ap (λ (x : Layer). x.minutes) joined-layer;
           }
 
   -- the same events in other calls
-  same-cuts : (xs ys : List Call) → events xs ≡ events ys → (layerAfter l xs ≡ layerAfter l ys) × (joinedRows l xs ≡ joinedRows l ys)
+  same-cuts : (xs ys : List Call) → events xs ≡ events ys → (layer_after l xs ≡ layer_after l ys) × (joined_rows l xs ≡ joined_rows l ys)
   same-cuts xs ys e = (joined-layer xs ∙ rw e (sym (joined-layer ys)), joined-rows xs ∙ rw e (sym (joined-rows ys)))
 
 -- ---- the layer that making gives
 
-made_by : (v : Verdict) (t : Thresholds) (h : Hours) (m : ℕ) → NoneYet (madeBy v t h m)
+made_by : (v : Verdict) (t : Thresholds) (h : Hours) (m : ℕ) → NoneYet (made_by v t h m)
 made_by Accepted t h m = record { nothing = refl; no-bars = fresh-none t }
-made_by (Denied r) t h m = record { nothing = refl; no-bars = fresh-none standardSet }
+made_by (Denied r) t h m = record { nothing = refl; no-bars = fresh-none standard_set }
 
 made-any : (t : Thresholds) (h : Hours) (m : ℕ) → NoneYet (made_of t h m).after
 unfolding made_of
-made-any t h m = made_by (makeVerdict t h m) t h m
+made-any t h m = made_by (make_verdict t h m) t h m
 
 -- one window from 0 to 1,440 and 5 keep the rules
-pub standard-layer : validLayer wholeDay 5 nothingYet ≡ true
-unfolding validLayer validHours risingFrom termLength soundCarried wholeDay
+pub standard-layer : valid_layer whole_day 5 nothing_yet ≡ true
+unfolding valid_layer valid_hours rising_from term_length sound_carried whole_day
 standard-layer = refl
 
 Valid : Layer → Type 0
-Valid l = (valid_of l.inner.thresholds ≡ true) × (validLayer l.hours l.minutes l.carried ≡ true)
+Valid l = (valid_of l.inner.thresholds ≡ true) × (valid_layer l.hours l.minutes l.carried ≡ true)
 
 -- hours keep the rules as those with the same windows in use do
-valid_same : (g h : Hours) (m : ℕ) → g.count ≡ h.count → windowsOf g ≡ windowsOf h → validLayer g m nothingYet ≡ validLayer h m nothingYet
-unfolding validLayer validHours soundCarried
+valid_same : (g h : Hours) (m : ℕ) → g.count ≡ h.count → windows_of g ≡ windows_of h → valid_layer g m nothing_yet ≡ valid_layer h m nothing_yet
+unfolding valid_layer valid_hours sound_carried
 valid_same g h m c w = rw (w, c)
 
-valid-by : (v : Verdict) (t : Thresholds) (h : Hours) (m : ℕ) → length h.windows ≡ mostWindows → makeVerdict t h m ≡ v → Valid (madeBy v t h m)
-unfolding makeVerdict Valid withZeros
+valid-by : (v : Verdict) (t : Thresholds) (h : Hours) (m : ℕ) → length h.windows ≡ most_windows → make_verdict t h m ≡ v → Valid (made_by v t h m)
+unfolding make_verdict Valid with_zeros
 valid-by Accepted t h m full e =
     let three = none_true _ _ e in
     let twelve = none_true _ _ three.1 in
-    (not-false _ three.0, valid_same (withZeros h) h m refl (zeros-windows h full) ∙ not-false _ twelve.0)
+    (not-false _ three.0, valid_same (with_zeros h) h m refl (zeros-windows h full) ∙ not-false _ twelve.0)
 valid-by (Denied r) t h m full e = (standard-valid, standard-layer)
 
-made-valid : (t : Thresholds) (h : Hours) (m : ℕ) → length h.windows ≡ mostWindows → Valid (made_of t h m).after
+made-valid : (t : Thresholds) (h : Hours) (m : ℕ) → length h.windows ≡ most_windows → Valid (made_of t h m).after
 unfolding made_of
-made-valid t h m full = valid-by (makeVerdict t h m) t h m full refl
+made-valid t h m full = valid-by (make_verdict t h m) t h m full refl
 
-made-by-same : (v : Verdict) (t : Thresholds) (g h : Hours) (m : ℕ) → withZeros g ≡ withZeros h → madeBy v t g m ≡ madeBy v t h m
+made-by-same : (v : Verdict) (t : Thresholds) (g h : Hours) (m : ℕ) → with_zeros g ≡ with_zeros h → made_by v t g m ≡ made_by v t h m
 made-by-same Accepted t g h m e = rw e
 made-by-same (Denied r) t g h m e = refl
 
-made-same : (t : Thresholds) (g h : Hours) (m : ℕ) → g.count ≡ h.count → windowsOf g ≡ windowsOf h → made_of t g m ≡ made_of t h m
-unfolding made_of makeVerdict withZeros
+made-same : (t : Thresholds) (g h : Hours) (m : ℕ) → g.count ≡ h.count → windows_of g ≡ windows_of h → made_of t g m ≡ made_of t h m
+unfolding made_of make_verdict with_zeros
 made-same t g h m c w =
-    let v = makeVerdict t h m in
-    let same : makeVerdict t g m ≡ v = rw (valid_same g h m c w) in
-    ap (λ (x : Verdict). taken x 0 (madeBy x t g m)) same ∙ ap (taken v 0) (made-by-same v t g h m (rw (w, c)))
+    let v = make_verdict t h m in
+    let same : make_verdict t g m ≡ v = rw (valid_same g h m c w) in
+    ap (λ (x : Verdict). taken x 0 (made_by x t g m)) same ∙ ap (taken v 0) (made-by-same v t g h m (rw (w, c)))
 
 -- ---- said of the whole list at once
 

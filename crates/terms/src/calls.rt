@@ -1,17 +1,17 @@
 // Making, a run of bars and a close.
 ghost use Rattle.std.specs.Prelude.{◌≡◌, [], ◌∷◌, ◌+◌, ◌*◌, ◌≤◌, length, take, drop};
-ghost use Rattle.measures.specs.Bar.{barsOf, overlay, pricesOf};
+ghost use Rattle.measures.specs.Bar.{bars_of, overlay, prices_of};
 ghost use Rattle.answers.specs.declared.refusals.Verdict.TheVariants.{Accepted};
-ghost use Rattle.recognisers.specs.Number.{rowBytes};
-ghost use Rattle.recognisers.specs.Refusal.{leaves, verdictNumber};
+ghost use Rattle.recognisers.specs.Number.{row_bytes};
+ghost use Rattle.recognisers.specs.Refusal.{leaves, verdict_number};
 ghost use Rattle.bar_box.specs.Sheet.{rows_of};
-ghost use Rattle.bar_box.specs.Box.{kept, takenIn, verdictOf, fedOf, sheetOf};
+ghost use Rattle.bar_box.specs.Box.{kept, taken_in, verdict_of, fed_of, sheet_of};
 ghost use Rattle.term_events.specs.declared.events.OpenBar.TheVariants.{Nothing};
-ghost use Rattle.term_events.specs.Events.{ended_of, minutesOf};
+ghost use Rattle.term_events.specs.Events.{ended_of, minutes_of};
 ghost use Rattle.term_events.specs.EventSteps.{Ready};
-ghost use Rattle.term_events.specs.Verdicts.{makeVerdict};
-ghost use Rattle.terms.specs.Layer.{runVerdictOf, closeVerdictOf, made_of, ranOf, ranSheet, closedOf, closedSheet};
-ghost use Rattle.terms.specs.TermSteps.{progressOf};
+ghost use Rattle.term_events.specs.Verdicts.{make_verdict};
+ghost use Rattle.terms.specs.Layer.{run_verdict_of, close_verdict_of, made_of, ran_of, ran_sheet, closed_of, closed_sheet};
+ghost use Rattle.terms.specs.TermSteps.{progress_of};
 
 use crate::layers;
 use crate::layers::{Layer, Taken};
@@ -28,8 +28,8 @@ const ROOM_BARS: usize = 32;
 // Feeds the first n bars of a run of prices; their rows go to a row of the sheet and those after it. What the feed hands back is handed on: a
 // box that is taken out of it is copied.
 fn feed_front(b: BarBox, run: &[f64], n: usize, sheet: &mut [u8], row: usize) -> Outcome
-    requires { (verdictOf b (4 * n) (rowBytes * n) ≡ Accepted) × ((4 * n ≤ length run.now) × (rowBytes * (row + n) ≤ length sheet.old)) }
-    ensures { (result.after ≡ takenIn b (barsOf (take (4 * n) run.now))) × (sheet.new ≡ overlay sheet.old (rowBytes * row) (rows_of b.thresholds b.count (kept b) (barsOf (take (4 * n) run.now)))) }
+    requires { (verdict_of b (4 * n) (row_bytes * n) ≡ Accepted) × ((4 * n ≤ length run.now) × (row_bytes * (row + n) ≤ length sheet.old)) }
+    ensures { (result.after ≡ taken_in b (bars_of (take (4 * n) run.now))) × (sheet.new ≡ overlay sheet.old (row_bytes * row) (rows_of b.thresholds b.count (kept b) (bars_of (take (4 * n) run.now)))) }
 {
     let end = 4 * n;
     let at = ROW_BYTES * row;
@@ -56,9 +56,9 @@ fn take_bars(
     from: usize,
     sheet: &mut [u8],
 ) -> Progress
-    requires { (Ready h m c (drop from stamps.now)) × (length stamps.now ≡ length (barsOf prices.now)) × (from ≤ length stamps.now) × (verdictOf b (length prices.now) (length sheet.old) ≡ Accepted) }
-    ensures { let es = drop from (minutesOf stamps.now (barsOf prices.now)) in
-        (result ≡ progressOf h m c b es) × (sheet.new ≡ overlay sheet.old 0 (rows_of b.thresholds b.count (kept b) (ended_of h m c es))) }
+    requires { (Ready h m c (drop from stamps.now)) × (length stamps.now ≡ length (bars_of prices.now)) × (from ≤ length stamps.now) × (verdict_of b (length prices.now) (length sheet.old) ≡ Accepted) }
+    ensures { let es = drop from (minutes_of stamps.now (bars_of prices.now)) in
+        (result ≡ progress_of h m c b es) × (sheet.new ≡ overlay sheet.old 0 (rows_of b.thresholds b.count (kept b) (ended_of h m c es))) }
 {
     let mut run = [0.0; 4 * ROOM_BARS];
     let mut carried = c;
@@ -93,9 +93,9 @@ fn first_taken(v: Verdict, bars: usize) -> usize
 // Takes a run of bars in, one stamp a bar, and writes a row for each term bar that ended, or refuses and leaves layer and sheet as they
 // were: a refused run takes no bar. Where no term bar ends nothing is fed.
 pub fn run(l: Layer, prices: &[f64], stamps: &[u32], sheet: &mut [u8]) -> Taken
-    ensures answer { result ≡ ranOf l prices.now stamps.now (length sheet.old) }
-    ensures sheet { sheet.new ≡ ranSheet l prices.now stamps.now sheet.old }
-    ensures number { verdictNumber result.verdict ≡ verdictNumber (runVerdictOf l (length prices.now) stamps.now (length sheet.old)) }
+    ensures answer { result ≡ ran_of l prices.now stamps.now (length sheet.old) }
+    ensures sheet { sheet.new ≡ ran_sheet l prices.now stamps.now sheet.old }
+    ensures number { verdict_number result.verdict ≡ verdict_number (run_verdict_of l (length prices.now) stamps.now (length sheet.old)) }
 {
     let h = l.hours;
     let m = l.minutes;
@@ -153,7 +153,7 @@ fn ended_by(v: Verdict, pending: OpenBar) -> OpenBar
 
 // Feeds one bar.
 fn feed_one(b: BarBox, bar: Bar, sheet: &mut [u8]) -> Outcome
-    ensures { (result ≡ fedOf b (pricesOf (bar ∷ [])) (length sheet.old)) × (sheet.new ≡ sheetOf b (pricesOf (bar ∷ [])) sheet.old) }
+    ensures { (result ≡ fed_of b (prices_of (bar ∷ [])) (length sheet.old)) × (sheet.new ≡ sheet_of b (prices_of (bar ∷ [])) sheet.old) }
 {
     let mut run = [0.0; 4];
     put_bar(bar, &mut run, 0);
@@ -163,9 +163,9 @@ fn feed_one(b: BarBox, bar: Bar, sheet: &mut [u8]) -> Outcome
 // Ends the open term, if there is one, and writes its bar's row, or refuses and leaves layer and sheet as they were: a refused close ends no
 // term bar.
 pub fn close(l: Layer, sheet: &mut [u8]) -> Taken
-    ensures answer { result ≡ closedOf l (length sheet.old) }
-    ensures sheet { sheet.new ≡ closedSheet l sheet.old }
-    ensures number { verdictNumber result.verdict ≡ verdictNumber (closeVerdictOf l (length sheet.old)) }
+    ensures answer { result ≡ closed_of l (length sheet.old) }
+    ensures sheet { sheet.new ≡ closed_sheet l sheet.old }
+    ensures number { verdict_number result.verdict ≡ verdict_number (close_verdict_of l (length sheet.old)) }
 {
     let c = l.carried;
     let right = bar_box::is_right(l.inner);
@@ -212,7 +212,7 @@ pub fn close(l: Layer, sheet: &mut [u8]) -> Taken
 // the standard set, the whole day and 5.
 pub fn make(t: Thresholds, h: Hours, m: u32) -> Taken
     ensures answer { result ≡ made_of t h m }
-    ensures number { verdictNumber result.verdict ≡ verdictNumber (makeVerdict t h m) }
+    ensures number { verdict_number result.verdict ≡ verdict_number (make_verdict t h m) }
 {
     let verdict = verdicts::make_verdict(t, h, m);
     let made = bar_box::make(layers::thresholds_by(verdict, t));

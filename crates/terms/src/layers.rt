@@ -1,10 +1,10 @@
 // The layer.
 ghost use Rattle.std.specs.Prelude.{◌≡◌};
-ghost use Rattle.recognisers.specs.Threshold.{standardSet};
+ghost use Rattle.recognisers.specs.Threshold.{standard_set};
 ghost use Rattle.recognisers.specs.Refusal.{leaves};
-ghost use Rattle.trading_hours.specs.Hours.{withZeros};
-ghost use Rattle.term_events.specs.Events.{nothingYet};
-ghost use Rattle.terms.specs.Layer.{layerWith, wholeDay};
+ghost use Rattle.trading_hours.specs.Hours.{with_zeros};
+ghost use Rattle.term_events.specs.Events.{nothing_yet};
+ghost use Rattle.terms.specs.Layer.{layer_with, whole_day};
 
 use bar_box::BarBox;
 use recognisers::{Thresholds, Verdict};
@@ -30,7 +30,7 @@ pub struct Taken {
 
 // One window from 0 to 1,440.
 fn whole_day() -> Hours
-    ensures { result ≡ wholeDay }
+    ensures { result ≡ whole_day }
 {
     let all = DayWindow { from: 0, to: 1440 };
     let none = DayWindow { from: 0, to: 0 };
@@ -42,7 +42,7 @@ fn whole_day() -> Hours
 
 // The thresholds, hours and term length of a making by its verdict: those asked for, or those of a refused one.
 pub(crate) fn thresholds_by(v: Verdict, t: Thresholds) -> Thresholds
-    ensures { result ≡ leaves v standardSet t }
+    ensures { result ≡ leaves v standard_set t }
 {
     match v {
         Verdict::Accepted => t,
@@ -51,7 +51,7 @@ pub(crate) fn thresholds_by(v: Verdict, t: Thresholds) -> Thresholds
 }
 
 pub(crate) fn hours_by(v: Verdict, h: Hours) -> Hours
-    ensures { result ≡ leaves v wholeDay (withZeros h) }
+    ensures { result ≡ leaves v whole_day (with_zeros h) }
 {
     match v {
         Verdict::Accepted => hours::with_zeros(h),
@@ -70,7 +70,7 @@ pub(crate) fn minutes_by(v: Verdict, m: u32) -> u32
 
 // A layer over a box, to which nothing came yet.
 pub(crate) fn fresh(hours: Hours, minutes: u32, inner: BarBox) -> Layer
-    ensures { result ≡ layerWith hours minutes nothingYet inner }
+    ensures { result ≡ layer_with hours minutes nothing_yet inner }
 {
     Layer {
         inner,

@@ -1,6 +1,6 @@
 // Which labels the rows of a history have.
 ghost use Rattle.std.specs.Prelude.{◌≤◌};
-ghost use Rattle.recognisers.specs.Number.{rowBytes};
+ghost use Rattle.recognisers.specs.Number.{row_bytes};
 
 use crate::cuts::BARS;
 use crate::plain::rows;
@@ -14,7 +14,7 @@ const CODES: u8 = LABELS as u8;
 
 // How many of the v1 at a place of the sheet and each so many bytes on are a code, or are not.
 fn count(sheet: &[u8], from: usize, by: usize, code: u8, is: bool) -> u64
-    requires { (1 ≤ by) × (by ≤ rowBytes) }
+    requires { (1 ≤ by) × (by ≤ row_bytes) }
 {
     let mut n = 0;
     let mut at = from;

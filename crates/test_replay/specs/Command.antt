@@ -1,27 +1,27 @@
 -- What a line asks for.
 use Rattle.std.specs.Prelude.{ℕ, ◌+◌, ◌*◌, Bool, cond, ◌&&◌, List, length, ◌==◌, slice_index}
-use Rattle.recognisers.specs.Export.{barBytes}
-use Rattle.test_replay.specs.Hex.{payloadOf}
+use Rattle.recognisers.specs.Export.{bar_bytes}
+use Rattle.test_replay.specs.Hex.{payload_of}
 use Rattle.test_replay.specs.declared.command.Command.{Command, TheVariants.New, TheVariants.Bar, TheVariants.Thresholds, TheVariants.Call, TheVariants.Bad}
 
 -- how many bytes the thresholds and a call are
-abbrev pub thresholdsSize : ℕ
-thresholdsSize = 60
+abbrev pub thresholds_size : ℕ
+thresholds_size = 60
 
-abbrev pub callSize : ℕ
-callSize = 8
+abbrev pub call_size : ℕ
+call_size = 8
 
 -- the letter n, 110, alone
-unfoldable pub isNew : List ℕ → Bool
-isNew line = length line == 1 && slice_index line 0 == 110
+unfoldable pub is_new : List ℕ → Bool
+is_new line = length line == 1 && slice_index line 0 == 110
 
 -- a letter, a space, 32, and so many bytes in hexadecimal
-unfoldable pub hasForm : List ℕ → ℕ → ℕ → Bool
-hasForm line letter size =
-    (length line == 2 + 2 * size) && (slice_index line 0 == letter && (slice_index line 1 == 32 && length (payloadOf line) == size))
+unfoldable pub has_form : List ℕ → ℕ → ℕ → Bool
+has_form line letter size =
+    (length line == 2 + 2 * size) && (slice_index line 0 == letter && (slice_index line 1 == 32 && length (payload_of line) == size))
 
 -- n: a new history; b, 98: a bar; t, 116: the thresholds; c, 99: a call
-unfoldable pub commandOf : List ℕ → Command
-commandOf line =
-    cond (isNew line) New
-    (cond (hasForm line 98 barBytes) Bar (cond (hasForm line 116 thresholdsSize) Thresholds (cond (hasForm line 99 callSize) Call Bad)))
+unfoldable pub command_of : List ℕ → Command
+command_of line =
+    cond (is_new line) New
+    (cond (has_form line 98 bar_bytes) Bar (cond (has_form line 116 thresholds_size) Thresholds (cond (has_form line 99 call_size) Call Bad)))

@@ -16,5 +16,5 @@ abbrev pub longest : ℕ
 longest = 60
 
 -- the bytes that a line has after its letter and its space
-unfoldable pub payloadOf : List ℕ → List ℕ
-payloadOf line = take longest (bytes_of (drop 2 line))
+unfoldable pub payload_of : List ℕ → List ℕ
+payload_of line = take longest (bytes_of (drop 2 line))

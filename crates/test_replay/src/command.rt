@@ -1,6 +1,6 @@
 // What a line asks for.
 ghost use Rattle.std.specs.Prelude.{◌≡◌, ◌≤◌};
-ghost use Rattle.test_replay.specs.Command.{isNew, hasForm, commandOf};
+ghost use Rattle.test_replay.specs.Command.{is_new, has_form, command_of};
 ghost use Rattle.test_replay.specs.Hex.{longest};
 
 use crate::hex::decode;
@@ -21,7 +21,7 @@ const THRESHOLDS: usize = 60;
 const CALL: usize = 8;
 
 fn is_new(line: &[u8]) -> bool
-    ensures { result ≡ isNew line.now }
+    ensures { result ≡ is_new line.now }
 {
     if line.len() == 1 {
         line[0] == b'n'
@@ -33,7 +33,7 @@ fn is_new(line: &[u8]) -> bool
 // Whether a line is a letter, a space and so many bytes in hexadecimal.
 fn has_form(line: &[u8], letter: u8, size: usize) -> bool
     requires { size ≤ longest }
-    ensures { result ≡ hasForm line.now letter size }
+    ensures { result ≡ has_form line.now letter size }
 {
     if line.len() != 2 + 2 * size {
         return false;
@@ -48,7 +48,7 @@ fn has_form(line: &[u8], letter: u8, size: usize) -> bool
 }
 
 pub fn parse(line: &[u8]) -> Command
-    ensures { result ≡ commandOf line.now }
+    ensures { result ≡ command_of line.now }
 {
     if is_new(line) {
         return Command::New;

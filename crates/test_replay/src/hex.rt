@@ -1,6 +1,6 @@
 // Bytes in hexadecimal: two lowercase digits to a byte, the most significant first.
 ghost use Rattle.std.specs.Prelude.{◌≡◌, length, take, slice_index};
-ghost use Rattle.test_replay.specs.Hex.{value_of, payloadOf};
+ghost use Rattle.test_replay.specs.Hex.{value_of, payload_of};
 
 // The most bytes that a line has in hexadecimal.
 pub const LONGEST: usize = 60;
@@ -31,8 +31,8 @@ fn value_at(s: &[u8], at: usize) -> u8
 
 // The bytes that a line has after its letter and its space, up to the first pair that is not two digits.
 pub fn decode(line: &[u8]) -> Decoded
-    ensures bytes_value { take result.len result.bytes ≡ payloadOf line.now }
-    ensures len_value { result.len ≡ length (payloadOf line.now) }
+    ensures bytes_value { take result.len result.bytes ≡ payload_of line.now }
+    ensures len_value { result.len ≡ length (payload_of line.now) }
 {
     let mut bytes = [0u8; LONGEST];
     let mut i = 0usize;

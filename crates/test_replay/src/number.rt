@@ -1,7 +1,7 @@
 // Numbers out of bytes, the least significant byte first.
 ghost use Rattle.std.specs.Prelude.{◌≡◌, ◌+◌, ◌<◌, ◌≤◌};
 ghost use Rattle.test_replay.specs.Hex.{longest};
-ghost use Rattle.test_replay.specs.Number.{u32_at, u64At, f64At};
+ghost use Rattle.test_replay.specs.Number.{u32_at, u64_at, f64_at};
 
 use crate::hex::LONGEST;
 
@@ -26,7 +26,7 @@ pub(crate) fn u32_at(s: &[u8; LONGEST], at: usize) -> u32
 // The u64 of the eight bytes from a place on.
 fn u64_at(s: &[u8; LONGEST], at: usize) -> u64
     requires { at + 8 ≤ longest }
-    ensures { result ≡ u64At s.now at }
+    ensures { result ≡ u64_at s.now at }
 {
     let low = u32_at(s, at) as u64;
     let high = u32_at(s, at + 4) as u64;
@@ -36,7 +36,7 @@ fn u64_at(s: &[u8; LONGEST], at: usize) -> u64
 // The f64 of the eight bytes from a place on.
 pub(crate) fn f64_at(s: &[u8; LONGEST], at: usize) -> f64
     requires { at + 8 ≤ longest }
-    ensures { result ≡ f64At s.now at }
+    ensures { result ≡ f64_at s.now at }
 {
     recognisers::export::of_bits(u64_at(s, at))
 }

@@ -1,7 +1,7 @@
 // Standard output, written a buffer at a time: a write for each answer would be slow.
 ghost use Rattle.std.specs.Prelude.{◌≡◌, []};
 ghost use Rattle.test_replay.specs.Buffer.{content};
-ghost use Rattle.test_replay.specs.Output.{withBytes, WithNumber};
+ghost use Rattle.test_replay.specs.Output.{with_bytes, WithNumber};
 
 use crate::buffer::{Buffer, CAPACITY};
 use libc::STDOUT_FILENO;
@@ -45,7 +45,7 @@ impl Output {
 
     // Where s has no room after what is held, that is handed over first.
     pub fn write(self, s: &[u8]) -> Self
-        ensures { content result.held ≡ withBytes (content self.held) s.now }
+        ensures { content result.held ≡ with_bytes (content self.held) s.now }
     {
         let held = self.held;
         if s.len() <= CAPACITY - held.size() {

@@ -1,11 +1,11 @@
 // The state between two lines, and what a line does to it.
 ghost use Rattle.std.specs.Prelude.{◌≡◌, ◌+◌, ◌<◌, ◌≤◌, true, false, [], length, take, replicate};
 ghost use Rattle.test_replay.specs.Buffer.{capacity, content};
-ghost use Rattle.recognisers.specs.Export.{barBytes};
+ghost use Rattle.recognisers.specs.Export.{bar_bytes};
 ghost use Rattle.test_replay.specs.Hex.{longest};
 ghost use Rattle.test_replay.specs.Line.{EndsAt};
-ghost use Rattle.test_replay.specs.Session.{withBar, Keeps, Executes};
-ghost use Rattle.test_replay.specs.Thresholds.{thresholdsOf};
+ghost use Rattle.test_replay.specs.Session.{with_bar, Keeps, Executes};
+ghost use Rattle.test_replay.specs.Thresholds.{thresholds_of};
 
 use crate::buffer::{Buffer, CAPACITY};
 use crate::command::{Command, parse};
@@ -47,7 +47,7 @@ impl Session {
     pub fn new() -> Self
         ensures line_value { content result.line ≡ [] }
         ensures history_value { content result.history ≡ [] }
-        ensures thresholds_value { result.thresholds ≡ thresholdsOf (replicate longest 0) }
+        ensures thresholds_value { result.thresholds ≡ thresholds_of (replicate longest 0) }
     {
         let zeros = [0u8; LONGEST];
         Session {
@@ -75,9 +75,9 @@ impl Session {
 
     // A bar for which there is no room is a bad line.
     fn append_bar(self, bytes: [u8; LONGEST]) -> Self
-        ensures history_value { content result.history ≡ withBar (content self.history) (take barBytes bytes) }
+        ensures history_value { content result.history ≡ with_bar (content self.history) (take bar_bytes bytes) }
         ensures thresholds_value { result.thresholds ≡ self.thresholds }
-        ensures reading_value { capacity < length (content self.history) + barBytes → result.reading ≡ false }
+        ensures reading_value { capacity < length (content self.history) + bar_bytes → result.reading ≡ false }
     {
         let history = self.history;
         if CAPACITY - history.size() < BAR_BYTES {

@@ -1,6 +1,6 @@
 // The thresholds of the recognisers, in the order of jcc_label's parameters.
 ghost use Rattle.std.specs.Prelude.{◌≡◌};
-ghost use Rattle.test_replay.specs.Thresholds.{thresholdsOf};
+ghost use Rattle.test_replay.specs.Thresholds.{thresholds_of};
 
 use crate::hex::LONGEST;
 use crate::number::{f64_at, u32_at};
@@ -8,7 +8,7 @@ use recognisers::Thresholds;
 
 // The thresholds of 60 bytes, with nothing between them.
 pub fn read(s: &[u8; LONGEST]) -> Thresholds
-    ensures { result ≡ thresholdsOf s.now }
+    ensures { result ≡ thresholds_of s.now }
 {
     Thresholds {
         th0: f64_at(s, 0),

@@ -9,54 +9,54 @@ use borrow.Author.Tests.{leb-true, leb-false, eqb-true, le-ltb, lt-ltb, le-leb}
 use lib.Dec.{ltb, leb, eqb}
 use lib.Ieee.{nan}
 use lib.ListN.{length, get_or, take}
-use Rattle.measures.specs.Bar.{Bar, barOf, noBar}
+use Rattle.measures.specs.Bar.{Bar, bar_of, no_bar}
 use Rattle.answers.specs.declared.refusals.Refusal.TheVariants as refusal
 use Rattle.answers.specs.declared.refusals.Verdict.{Verdict, TheVariants.Accepted, TheVariants.Denied}
-use Rattle.recognisers.specs.Number.{longestLine}
-use Rattle.recognisers.specs.Refusal.{firstTrue}
+use Rattle.recognisers.specs.Number.{longest_line}
+use Rattle.recognisers.specs.Refusal.{first_true}
 use Rattle.price_texts.specs.declared.price_text.Price.{Price, TheVariants.Value, TheVariants.Bad}
 use Rattle.text.specs.declared.line_text.Line.{Line, TheVariants.Prices, TheVariants.BadShape, TheVariants.BadPrice}
-use Rattle.text.specs.LineText.{pricesIn, isPrice, allPrices, pricesBefore, leftmostBad, lineVerdict, value_of, value_at, answerTo, said_of, line_of, placesIn}
-use Rattle.text.specs.SameLines.{fourOf, Leftmost, SameLines}
+use Rattle.text.specs.LineText.{prices_in, is_price, all_prices, prices_before, leftmost_bad, line_verdict, value_of, value_at, answer_to, said_of, line_of, places_in}
+use Rattle.text.specs.SameLines.{four_of, Leftmost, SameLines}
 use Rattle.input_lines.proofs.RunLaws.{both}
 use Rattle.text.proofs.LineTextLaws.{said-verdict}
 
 -- ---- fields
 
 -- where not all are prices, the leftmost that is none
-leftmost : (fields : List Price) → allPrices fields ≡ false
-    → (pricesBefore fields < length fields) × (get_or fields (pricesBefore fields) (Value nan) ≡ Bad) × (allPrices (take (pricesBefore fields) fields) ≡ true)
-unfolding allPrices pricesBefore
+leftmost : (fields : List Price) → all_prices fields ≡ false
+    → (prices_before fields < length fields) × (get_or fields (prices_before fields) (Value nan) ≡ Bad) × (all_prices (take (prices_before fields) fields) ≡ true)
+unfolding all_prices prices_before
 leftmost [] e = absurd (true≢false e)
 leftmost (Value x ∷ fields) e = let rest = leftmost fields e in (omega (arith, rest.0), rest.1, rest.2)
 leftmost (Bad ∷ fields) e = (omega arith, refl, refl)
 
-leftmost-of-four : (fields : List Price) → length fields ≡ 4 → allPrices fields ≡ false → Leftmost fields (leftmostBad fields)
+leftmost-of-four : (fields : List Price) → length fields ≡ 4 → all_prices fields ≡ false → Leftmost fields (leftmost_bad fields)
 leftmost-of-four fields four e =
     let is = leftmost fields e in
-    let before : leftmostBad fields - 1 ≡ pricesBefore fields = omega arith in
+    let before : leftmost_bad fields - 1 ≡ prices_before fields = omega arith in
     (omega arith, omega (arith, is.0), rw before is.1, rw before is.2)
 
 -- four prices are their values
-is-value : (p : Price) → isPrice p ≡ true → p ≡ Value (value_of p)
+is-value : (p : Price) → is_price p ≡ true → p ≡ Value (value_of p)
 is-value (Value x) e = refl
 is-value Bad e = absurd (false≢true e)
 
-abbrev barIn : List Price → Bar
-barIn fields = barOf (value_at fields 0) (value_at fields 1) (value_at fields 2) (value_at fields 3)
+abbrev bar_in : List Price → Bar
+bar_in fields = bar_of (value_at fields 0) (value_at fields 1) (value_at fields 2) (value_at fields 3)
 
-four-values : (fields : List Price) → length fields ≡ 4 → allPrices fields ≡ true → fields ≡ fourOf (barIn fields)
-unfolding allPrices
+four-values : (fields : List Price) → length fields ≡ 4 → all_prices fields ≡ true → fields ≡ four_of (bar_in fields)
+unfolding all_prices
 four-values [] n e = absurd (omega arith)
 four-values (a ∷ []) n e = absurd (omega arith)
 four-values (a ∷ b ∷ []) n e = absurd (omega arith)
 four-values (a ∷ b ∷ c ∷ []) n e = absurd (omega arith)
 four-values (a ∷ b ∷ c ∷ d ∷ x ∷ rest) n e = absurd (omega arith)
 four-values (a ∷ b ∷ c ∷ d ∷ []) n e =
-    let a-is = both (isPrice a) _ e in
-    let b-is = both (isPrice b) _ a-is.1 in
-    let c-is = both (isPrice c) _ b-is.1 in
-    let d-is = both (isPrice d) _ c-is.1 in
+    let a-is = both (is_price a) _ e in
+    let b-is = both (is_price b) _ a-is.1 in
+    let c-is = both (is_price c) _ b-is.1 in
+    let d-is = both (is_price d) _ c-is.1 in
     go a b c d (is-value a a-is.0) (is-value b b-is.0) (is-value c c-is.0) (is-value d d-is.0)
   where
     go : (a b c d : Price) → a ≡ Value (value_of a) → b ≡ Value (value_of b) → c ≡ Value (value_of c) → d ≡ Value (value_of d)
@@ -65,12 +65,12 @@ four-values (a ∷ b ∷ c ∷ d ∷ []) n e =
 
 -- ---- the tests
 
-longer : (bytes : ℕ) → ltb longestLine bytes ≡ not (leb bytes longestLine)
-longer bytes = go (leb bytes longestLine) refl
+longer : (bytes : ℕ) → ltb longest_line bytes ≡ not (leb bytes longest_line)
+longer bytes = go (leb bytes longest_line) refl
   where
-    go : (t : Bool) → leb bytes longestLine ≡ t → ltb longestLine bytes ≡ not t
-    go true e = le-ltb longestLine bytes (leb-true bytes longestLine e)
-    go false e = lt-ltb longestLine bytes (leb-false bytes longestLine e)
+    go : (t : Bool) → leb bytes longest_line ≡ t → ltb longest_line bytes ≡ not t
+    go true e = le-ltb longest_line bytes (leb-true bytes longest_line e)
+    go false e = lt-ltb longest_line bytes (leb-false bytes longest_line e)
 
 -- 8 and 9 by what they are made of: short enough, four fields, all of them prices
 abbrev by8 : Bool → Bool → Bool
@@ -103,33 +103,33 @@ not-both false four all = refl
 
 -- ---- what is said
 
-abbrev barOfLine : Line → Bar
-barOfLine (Prices bar) = bar
-barOfLine BadShape = noBar
-barOfLine (BadPrice place) = noBar
+abbrev bar_of_line : Line → Bar
+bar_of_line (Prices bar) = bar
+bar_of_line BadShape = no_bar
+bar_of_line (BadPrice place) = no_bar
 
-abbrev isBar : Line → Bool
-isBar (Prices bar) = true
-isBar BadShape = false
-isBar (BadPrice place) = false
+abbrev is_bar : Line → Bool
+is_bar (Prices bar) = true
+is_bar BadShape = false
+is_bar (BadPrice place) = false
 
 module _ (fields : List Price) (bar : Bar) where
-  said-prices : (short four all : Bool) → answerTo (first (by8 short four) (by9 short four all)) fields ≡ Prices bar
-      → (short ≡ true) × (four ≡ true) × (all ≡ true) × (barIn fields ≡ bar)
-  said-prices true true true e = (refl, refl, refl, ap barOfLine e)
-  said-prices true true false e = absurd (false≢true (ap isBar e))
-  said-prices true false all e = absurd (false≢true (ap isBar e))
-  said-prices false four all e = absurd (false≢true (ap isBar e))
+  said-prices : (short four all : Bool) → answer_to (first (by8 short four) (by9 short four all)) fields ≡ Prices bar
+      → (short ≡ true) × (four ≡ true) × (all ≡ true) × (bar_in fields ≡ bar)
+  said-prices true true true e = (refl, refl, refl, ap bar_of_line e)
+  said-prices true true false e = absurd (false≢true (ap is_bar e))
+  said-prices true false all e = absurd (false≢true (ap is_bar e))
+  said-prices false four all e = absurd (false≢true (ap is_bar e))
 
 module _ (fields : List Price) where
   said-place : (short four all : Bool) → by9 short four all ≡ true
-      → (four ≡ true) × (all ≡ false) × (placesIn (answerTo (first (by8 short four) (by9 short four all)) fields) ≡ leftmostBad fields ∷ [])
+      → (four ≡ true) × (all ≡ false) × (places_in (answer_to (first (by8 short four) (by9 short four all)) fields) ≡ leftmost_bad fields ∷ [])
   said-place true true false e = (refl, refl, refl)
   said-place true true true e = absurd (false≢true e)
   said-place true false all e = absurd (false≢true e)
   said-place false four all e = absurd (false≢true e)
 
-  said-no-place : (short four all : Bool) → by9 short four all ≡ false → placesIn (answerTo (first (by8 short four) (by9 short four all)) fields) ≡ []
+  said-no-place : (short four all : Bool) → by9 short four all ≡ false → places_in (answer_to (first (by8 short four) (by9 short four all)) fields) ≡ []
   said-no-place true true true e = refl
   said-no-place true true false e = absurd (true≢false e)
   said-no-place true false all e = refl
@@ -138,33 +138,33 @@ module _ (fields : List Price) where
 -- ---- the theorem
 module _ (s : List ℕ) where
   abbrev fields : List Price
-  fields = pricesIn s
+  fields = prices_in s
 
   abbrev short : Bool
-  short = leb (length s) longestLine
+  short = leb (length s) longest_line
 
   abbrev four : Bool
   four = eqb (length fields) 4
 
   abbrev all : Bool
-  all = allPrices fields
+  all = all_prices fields
 
-  said : line_of s ≡ answerTo (first (by8 short four) (by9 short four all)) fields
-  unfolding line_of said_of lineVerdict firstTrue
+  said : line_of s ≡ answer_to (first (by8 short four) (by9 short four all)) fields
+  unfolding line_of said_of line_verdict first_true
   said = rw (longer (length s))
 
   module _ (bar : Bar) where
-    said-four : line_of s ≡ Prices bar → (length s ≤ longestLine) × (fields ≡ fourOf bar)
+    said-four : line_of s ≡ Prices bar → (length s ≤ longest_line) × (fields ≡ four_of bar)
     said-four e =
         let is = said-prices fields bar short four all (sym said ∙ e) in
-        (leb-true (length s) longestLine is.0, four-values fields (eqb-true (length fields) 4 is.1) is.2 ∙ ap fourOf is.3)
+        (leb-true (length s) longest_line is.0, four-values fields (eqb-true (length fields) 4 is.1) is.2 ∙ ap four_of is.3)
 
-    four-said : length s ≤ longestLine → fields ≡ fourOf bar → line_of s ≡ Prices bar
-    unfolding allPrices
-    four-said le e = said ∙ rw (le-leb (length s) longestLine le, e)
+    four-said : length s ≤ longest_line → fields ≡ four_of bar → line_of s ≡ Prices bar
+    unfolding all_prices
+    four-said le e = said ∙ rw (le-leb (length s) longest_line le, e)
 
   pub same_lines : SameLines s
-  unfolding line_of lineVerdict firstTrue
+  unfolding line_of line_verdict first_true
   same_lines =
       record {
         verdict = said-verdict (length s) fields ∙ rw (longer (length s)) (first-by-01 short four all);
@@ -173,6 +173,6 @@ module _ (s : List ℕ) where
         prices = λ bar. (said-four bar, λ is. four-said bar is.0 is.1);
         placed = λ met.
             let is = said-place fields short four all met in
-            (leftmostBad fields, (ap placesIn said ∙ is.2, leftmost-of-four fields (eqb-true (length fields) 4 is.0) is.1));
-        not-placed = λ met. ap placesIn said ∙ said-no-place fields short four all met;
+            (leftmost_bad fields, (ap places_in said ∙ is.2, leftmost-of-four fields (eqb-true (length fields) 4 is.0) is.1));
+        not-placed = λ met. ap places_in said ∙ said-no-place fields short four all met;
       }

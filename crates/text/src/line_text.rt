@@ -1,8 +1,8 @@
 // A bar as a line of text.
 ghost use Rattle.std.specs.Prelude.{◌≡◌, [], ◌∷◌};
-ghost use Rattle.recognisers.specs.Refusal.{verdictNumber};
+ghost use Rattle.recognisers.specs.Refusal.{verdict_number};
 ghost use Rattle.input_lines.specs.Lines.{comma, pieces_of, content};
-ghost use Rattle.text.specs.LineText.{fieldsLine, said_of, line_of, verdictIn, badPlaces, verdictOf, placesIn};
+ghost use Rattle.text.specs.LineText.{fields_line, said_of, line_of, verdict_in, bad_places, verdict_of, places_in};
 
 use input_lines::lines::{COMMA, KEPT_BYTES, LONGEST_LINE, Partial, piece_end};
 use measures::{Bar, least};
@@ -44,7 +44,7 @@ fn four(open: Price, close: Price, high: Price, low: Price) -> Line
 
 // The line that has these four fields.
 fn prices(open: &[u8], close: &[u8], high: &[u8], low: &[u8]) -> Line
-    ensures { result ≡ fieldsLine («open».now ∷ close.now ∷ high.now ∷ low.now ∷ []) }
+    ensures { result ≡ fields_line («open».now ∷ close.now ∷ high.now ∷ low.now ∷ []) }
 {
     four(
         read_price(open),
@@ -56,7 +56,7 @@ fn prices(open: &[u8], close: &[u8], high: &[u8], low: &[u8]) -> Line
 
 // The line that has these fields and then those of s, which must be one.
 fn after_high(open: &[u8], close: &[u8], high: &[u8], s: &[u8]) -> Line
-    ensures { result ≡ fieldsLine («open».now ∷ close.now ∷ high.now ∷ pieces_of comma s.now) }
+    ensures { result ≡ fields_line («open».now ∷ close.now ∷ high.now ∷ pieces_of comma s.now) }
 {
     let end = piece_end(COMMA, s);
     if end < s.len() {
@@ -68,7 +68,7 @@ fn after_high(open: &[u8], close: &[u8], high: &[u8], s: &[u8]) -> Line
 
 // The line that has these fields and then those of s.
 fn after_close(open: &[u8], close: &[u8], s: &[u8]) -> Line
-    ensures { result ≡ fieldsLine («open».now ∷ close.now ∷ pieces_of comma s.now) }
+    ensures { result ≡ fields_line («open».now ∷ close.now ∷ pieces_of comma s.now) }
 {
     let k = piece_end(COMMA, s);
     if k < s.len() {
@@ -80,7 +80,7 @@ fn after_close(open: &[u8], close: &[u8], s: &[u8]) -> Line
 
 // The line that has this field and then those of s.
 fn after_open(open: &[u8], s: &[u8]) -> Line
-    ensures { result ≡ fieldsLine («open».now ∷ pieces_of comma s.now) }
+    ensures { result ≡ fields_line («open».now ∷ pieces_of comma s.now) }
 {
     let k = piece_end(COMMA, s);
     if k < s.len() {
@@ -93,8 +93,8 @@ fn after_open(open: &[u8], s: &[u8]) -> Line
 // The bar that a line is the text of, or what is wrong with it. No price is read before the number of fields is known.
 pub fn read_line(s: &[u8]) -> Line
     ensures answer { result ≡ line_of s.now }
-    ensures number { verdictNumber (verdictOf result) ≡ verdictNumber (verdictIn s.now) }
-    ensures place { placesIn result ≡ badPlaces s.now }
+    ensures number { verdict_number (verdict_of result) ≡ verdict_number (verdict_in s.now) }
+    ensures place { places_in result ≡ bad_places s.now }
 {
     if LONGEST_LINE < s.len() {
         return Line::BadShape;
@@ -110,8 +110,8 @@ pub fn read_line(s: &[u8]) -> Line
 // The same of a line that has ended.
 pub fn read_partial(line: Partial) -> Line
     ensures answer { result ≡ line_of (content line) }
-    ensures number { verdictNumber (verdictOf result) ≡ verdictNumber (verdictIn (content line)) }
-    ensures place { placesIn result ≡ badPlaces (content line) }
+    ensures number { verdict_number (verdict_of result) ≡ verdict_number (verdict_in (content line)) }
+    ensures place { places_in result ≡ bad_places (content line) }
 {
     let bytes = line.bytes;
     let n = least(line.len, KEPT_BYTES);
@@ -120,7 +120,7 @@ pub fn read_partial(line: Partial) -> Line
 
 // Refusal 8 or 9, or none.
 pub fn line_verdict(line: Line) -> Verdict
-    ensures { result ≡ verdictOf line }
+    ensures { result ≡ verdict_of line }
 {
     match line {
         Line::Prices(_) => Verdict::Accepted,

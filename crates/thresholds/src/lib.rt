@@ -1,7 +1,7 @@
 // The thresholds of the recognisers: the standard set, and whether each is inside its limits. All is proved, nothing is assumed, and no public
 // function has a `requires`: each contract is an equation with a definition of specs/, for every input.
 ghost use Rattle.std.specs.Prelude.{◌≡◌};
-ghost use Rattle.thresholds.specs.Threshold.{thresholdsOf, standardSet, floatWithin, wholeWithin, tenthsWithin, valid_of};
+ghost use Rattle.thresholds.specs.Threshold.{thresholds_of, standard_set, float_within, whole_within, tenths_within, valid_of};
 
 use rule_types::counts::{MOST_TENTHS, MOST_WHOLE};
 
@@ -42,7 +42,7 @@ impl Thresholds {
     };
 
     pub fn standard() -> Thresholds
-        ensures { result ≡ standardSet }
+        ensures { result ≡ standard_set }
     {
         Thresholds::STANDARD
     }
@@ -62,7 +62,7 @@ impl Thresholds {
         th13: u32,
         th14: u32,
     ) -> Thresholds
-        ensures { result ≡ thresholdsOf th0 z2 th2 z3 th3 zdf5 th6 zdf7 th8 zf8 th10 th13 th14 }
+        ensures { result ≡ thresholds_of th0 z2 th2 z3 th3 zdf5 th6 zdf7 th8 zf8 th10 th13 th14 }
     {
         Thresholds {
             th0,
@@ -102,19 +102,19 @@ impl Thresholds {
 }
 
 fn float_within(x: f64) -> bool
-    ensures { result ≡ floatWithin x }
+    ensures { result ≡ float_within x }
 {
     (0.0 <= x) & (x <= 10000.0)
 }
 
 fn whole_within(n: u32) -> bool
-    ensures { result ≡ wholeWithin n }
+    ensures { result ≡ whole_within n }
 {
     n <= MOST_WHOLE
 }
 
 fn tenths_within(n: u32) -> bool
-    ensures { result ≡ tenthsWithin n }
+    ensures { result ≡ tenths_within n }
 {
     n <= MOST_TENTHS
 }

@@ -5,63 +5,63 @@ use Rattle.trading_hours.specs.declared.hours.{DayWindow.DayWindow, Hours.Hours}
 -- ---- numbers
 
 -- a stamp counts minutes from a fixed midnight; a day has 1,440
-abbrev pub dayMinutes : ℕ
-dayMinutes = 1440
+abbrev pub day_minutes : ℕ
+day_minutes = 1440
 
-abbrev pub dayOf : ℕ → ℕ
-dayOf stamp = stamp / dayMinutes
+abbrev pub day_of : ℕ → ℕ
+day_of stamp = stamp / day_minutes
 
-abbrev pub minuteOf : ℕ → ℕ
-minuteOf stamp = stamp % dayMinutes
+abbrev pub minute_of : ℕ → ℕ
+minute_of stamp = stamp % day_minutes
 
 -- "one to four windows of the day"
-abbrev pub mostWindows : ℕ
-mostWindows = 4
+abbrev pub most_windows : ℕ
+most_windows = 4
 
 -- ---- hours
 
-abbrev pub windowFrom : ℕ → ℕ → DayWindow
-windowFrom from to = record { from = from; to = to }
+abbrev pub window_from : ℕ → ℕ → DayWindow
+window_from from to = record { from = from; to = to }
 
 -- what an unused place holds
-abbrev pub noWindow : DayWindow
-noWindow = windowFrom 0 0
+abbrev pub no_window : DayWindow
+no_window = window_from 0 0
 
-abbrev pub hoursWith : List DayWindow → ℕ → Hours
-hoursWith windows count = record { windows = windows; count = count }
+abbrev pub hours_with : List DayWindow → ℕ → Hours
+hours_with windows count = record { windows = windows; count = count }
 
 -- the windows in use; the places past them are not read
-abbrev pub windowsOf : Hours → List DayWindow
-windowsOf h = take h.count h.windows
+abbrev pub windows_of : Hours → List DayWindow
+windows_of h = take h.count h.windows
 
 -- the same hours with zeros in the unused places
-unfoldable pub withZeros : Hours → Hours
-withZeros h = hoursWith (windowsOf h ++ replicate (mostWindows - h.count) noWindow) h.count
+unfoldable pub with_zeros : Hours → Hours
+with_zeros h = hours_with (windows_of h ++ replicate (most_windows - h.count) no_window) h.count
 
 -- a window that begins no earlier than a minute: "from below to, to at most 1,440"
 abbrev pub follows : ℕ → DayWindow → Bool
-follows at w = leb at w.from && ltb w.from w.to && leb w.to dayMinutes
+follows at w = leb at w.from && ltb w.from w.to && leb w.to day_minutes
 
 -- "rising and disjoint": each begins no earlier than the one before it ends
-unfoldable pub risingFrom : ℕ → List DayWindow → Bool
-risingFrom at [] = true
-risingFrom at (w ∷ ws) = follows at w && risingFrom w.to ws
+unfoldable pub rising_from : ℕ → List DayWindow → Bool
+rising_from at [] = true
+rising_from at (w ∷ ws) = follows at w && rising_from w.to ws
 
-unfoldable pub validHours : Hours → Bool
-validHours h = leb 1 h.count && leb h.count mostWindows && risingFrom 0 (windowsOf h)
+unfoldable pub valid_hours : Hours → Bool
+valid_hours h = leb 1 h.count && leb h.count most_windows && rising_from 0 (windows_of h)
 
 -- "minute from inclusive and minute to exclusive": whether a window has a minute of the day
 abbrev pub has : DayWindow → ℕ → Bool
 has w minute = leb w.from minute && ltb minute w.to
 
 -- whether one of them has it
-unfoldable pub anyHas : List DayWindow → ℕ → Bool
-anyHas [] minute = false
-anyHas (w ∷ ws) minute = has w minute || anyHas ws minute
+unfoldable pub any_has : List DayWindow → ℕ → Bool
+any_has [] minute = false
+any_has (w ∷ ws) minute = has w minute || any_has ws minute
 
 -- a stamp lies in the hours
-unfoldable pub inHours : Hours → ℕ → Bool
-inHours h stamp = anyHas (windowsOf h) (minuteOf stamp)
+unfoldable pub in_hours : Hours → ℕ → Bool
+in_hours h stamp = any_has (windows_of h) (minute_of stamp)
 
 -- ---- terms
 
@@ -71,8 +71,8 @@ place_of [] minute = 0
 place_of (w ∷ ws) minute = cond (has w minute) 0 (suc (place_of ws minute))
 
 -- the window in use at a place
-abbrev pub windowAt : Hours → ℕ → DayWindow
-windowAt h place = get_or (windowsOf h) place noWindow
+abbrev pub window_at : Hours → ℕ → DayWindow
+window_at h place = get_or (windows_of h) place no_window
 
 -- a term: the day, the place of the window, and the number of the term in it
 pub record Term : Type 0 where
@@ -80,18 +80,18 @@ pub record Term : Type 0 where
   pub window : ℕ
   pub number : ℕ
 
-abbrev pub termWith : ℕ → ℕ → ℕ → Term
-termWith day window number = record { day = day; window = window; number = number }
+abbrev pub term_with : ℕ → ℕ → ℕ → Term
+term_with day window number = record { day = day; window = window; number = number }
 
 -- "A term of m minutes counts from its window's opening": the day, the window, and the number of the run of m minutes in it, from 0
-unfoldable pub termOf : Hours → ℕ → ℕ → Term
-termOf h m stamp =
-    let place = place_of (windowsOf h) (minuteOf stamp) in
-    termWith (dayOf stamp) place ((minuteOf stamp - (windowAt h place).from) / m)
+unfoldable pub term_of : Hours → ℕ → ℕ → Term
+term_of h m stamp =
+    let place = place_of (windows_of h) (minute_of stamp) in
+    term_with (day_of stamp) place ((minute_of stamp - (window_at h place).from) / m)
 
-unfoldable pub sameTerm : Term → Term → Bool
-sameTerm a b = eqb a.day b.day && eqb a.window b.window && eqb a.number b.number
+unfoldable pub same_term : Term → Term → Bool
+same_term a b = eqb a.day b.day && eqb a.window b.window && eqb a.number b.number
 
 -- the term lengths that a layer takes: "m minutes (5, 15, 60)"
-unfoldable pub termLength : ℕ → Bool
-termLength m = eqb m 5 || eqb m 15 || eqb m 60
+unfoldable pub term_length : ℕ → Bool
+term_length m = eqb m 5 || eqb m 15 || eqb m 60

@@ -1,6 +1,6 @@
 // Opening hours, and where the term of a stamp ends.
 ghost use Rattle.std.specs.Prelude.{◌≡◌, ◌-◌, ◌%◌, ◌≤◌, get_or, take};
-ghost use Rattle.trading_hours.specs.Hours.{noWindow, withZeros, risingFrom, validHours, inHours, place_of, termLength};
+ghost use Rattle.trading_hours.specs.Hours.{no_window, with_zeros, rising_from, valid_hours, in_hours, place_of, term_length};
 ghost use Rattle.trading_hours.specs.TermRule.{end_of};
 
 use measures::least;
@@ -22,7 +22,7 @@ pub struct Hours {
 // Whether the windows in use rise.
 fn rising(windows: [DayWindow; 4], n: usize) -> bool
     requires { n ≤ 4 }
-    ensures { result ≡ risingFrom 0 (take n windows) }
+    ensures { result ≡ rising_from 0 (take n windows) }
 {
     let mut at = 0u32;
     let mut i = 0usize;
@@ -39,7 +39,7 @@ fn rising(windows: [DayWindow; 4], n: usize) -> bool
 
 // Whether hours keep the rules.
 pub fn hours_valid(h: Hours) -> bool
-    ensures { result ≡ validHours h }
+    ensures { result ≡ valid_hours h }
 {
     let count = h.count;
     if count < 1 {
@@ -70,7 +70,7 @@ fn place_in(windows: [DayWindow; 4], n: usize, minute: u32) -> usize
 
 // Whether a stamp lies in the hours.
 pub fn in_hours(h: Hours, stamp: u32) -> bool
-    ensures { result ≡ inHours h stamp }
+    ensures { result ≡ in_hours h stamp }
 {
     let windows = h.windows;
     let n = least(h.count as usize, 4);
@@ -80,7 +80,7 @@ pub fn in_hours(h: Hours, stamp: u32) -> bool
 // The window at a place, of no minute past the last.
 fn window_at(windows: [DayWindow; 4], n: usize, place: usize) -> DayWindow
     requires { n ≤ 4 }
-    ensures { result ≡ get_or (take n windows) place noWindow }
+    ensures { result ≡ get_or (take n windows) place no_window }
 {
     if place < n {
         let w = windows[place];
@@ -92,7 +92,7 @@ fn window_at(windows: [DayWindow; 4], n: usize, place: usize) -> DayWindow
 
 // The same hours with zeros in the unused places.
 pub fn with_zeros(h: Hours) -> Hours
-    ensures { result ≡ withZeros h }
+    ensures { result ≡ with_zeros h }
 {
     let windows = h.windows;
     let n = least(h.count as usize, 4);
@@ -135,7 +135,7 @@ pub fn end_of(h: Hours, m: u32, stamp: u32) -> usize
 
 // Whether m is one of the term lengths.
 pub fn term_length(m: u32) -> bool
-    ensures { result ≡ termLength m }
+    ensures { result ≡ term_length m }
 {
     (m == 5) | (m == 15) | (m == 60)
 }

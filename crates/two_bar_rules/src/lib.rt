@@ -3,9 +3,9 @@
 // for every input.
 ghost use Rattle.std.specs.Prelude.{◌≡◌};
 ghost use Rattle.measures.specs.declared.folds.Column.TheVariants.{Close};
-ghost use Rattle.measures.specs.Bar.{barsOf};
-ghost use Rattle.measures.specs.Fold.{columnOf, highestOf};
-ghost use Rattle.two_bar_rules.specs.TwoBarRule.{tenCloses, coversOf, wuYunGaiDing, comesBack, ciTou, holdsFalling, holdsRising, yunXian, flatOf, pingTou};
+ghost use Rattle.measures.specs.Bar.{bars_of};
+ghost use Rattle.measures.specs.Fold.{column_of, highest_of};
+ghost use Rattle.two_bar_rules.specs.TwoBarRule.{ten_closes, covers_of, wu_yun_gai_ding, comes_back, ci_tou, holds_falling, holds_rising, yun_xian, flat_of, ping_tou};
 
 use measures::{Bar, Column};
 use rule_types::label::{Label, Pair, pair_b, pick};
@@ -14,7 +14,7 @@ use rule_types::label::{Label, Pair, pair_b, pick};
 
 // Few bars open above the high before, so that most need no division.
 fn covers(z: u32, th: u32, b1: Bar, b2: Bar) -> bool
-    ensures { result ≡ coversOf z th b1 b2 }
+    ensures { result ≡ covers_of z th b1 b2 }
 {
     let above = b1.open > b2.high;
     if above {
@@ -27,7 +27,7 @@ fn covers(z: u32, th: u32, b1: Bar, b2: Bar) -> bool
 
 // The ten closes are folded only where the two newest bars have the shape.
 pub fn wu_yun_gai_ding(z: u32, th: u32, w: &[f64], b1: Bar, b2: Bar) -> Pair
-    ensures { result ≡ wuYunGaiDing z th (highestOf (columnOf Close (tenCloses (barsOf w.now)))) b1 b2 }
+    ensures { result ≡ wu_yun_gai_ding z th (highest_of (column_of Close (ten_closes (bars_of w.now)))) b1 b2 }
 {
     let shape = covers(z, th, b1, b2);
     if shape {
@@ -49,7 +49,7 @@ pub fn wu_yun_gai_ding(z: u32, th: u32, w: &[f64], b1: Bar, b2: Bar) -> Pair
 // The newest bar opens below the low before and closes far enough up in that bar's body. Few bars open there, so that most need no
 // division.
 fn comes_back(th: u32, b1: Bar, b2: Bar) -> bool
-    ensures { result ≡ comesBack th b1 b2 }
+    ensures { result ≡ comes_back th b1 b2 }
 {
     let below = b1.open < b2.low;
     if below {
@@ -60,7 +60,7 @@ fn comes_back(th: u32, b1: Bar, b2: Bar) -> bool
 }
 
 pub fn ci_tou(z: u32, th: u32, b1: Bar, b2: Bar) -> Pair
-    ensures { result ≡ ciTou z th b1 b2 }
+    ensures { result ≡ ci_tou z th b1 b2 }
 {
     let back = comes_back(th, b1, b2);
     if back {
@@ -77,19 +77,19 @@ pub fn ci_tou(z: u32, th: u32, b1: Bar, b2: Bar) -> Pair
 // 9: yun_xian
 
 fn holds_falling(b1: Bar, b2: Bar) -> bool
-    ensures { result ≡ holdsFalling b1 b2 }
+    ensures { result ≡ holds_falling b1 b2 }
 {
     (b2.close > b1.close) & (b1.close > b2.open) & (b2.close > b1.open) & (b1.open > b2.open)
 }
 
 fn holds_rising(b1: Bar, b2: Bar) -> bool
-    ensures { result ≡ holdsRising b1 b2 }
+    ensures { result ≡ holds_rising b1 b2 }
 {
     (b2.close < b1.close) & (b1.close < b2.open) & (b2.close < b1.open) & (b1.open < b2.open)
 }
 
 pub fn yun_xian(b1: Bar, b2: Bar) -> Pair
-    ensures { result ≡ yunXian b1 b2 }
+    ensures { result ≡ yun_xian b1 b2 }
 {
     let held = (measures::body(b2) > measures::long_shadow(b2))
         & (measures::body(b1) < measures::long_shadow(b1));
@@ -104,13 +104,13 @@ pub fn yun_xian(b1: Bar, b2: Bar) -> Pair
 
 // Two prices lie less than th ten thousandths of the greater apart.
 fn is_flat(th: u32, x: f64, y: f64) -> bool
-    ensures { result ≡ flatOf th x y }
+    ensures { result ≡ flat_of th x y }
 {
     measures::abs(x - y) * 10000.0 / measures::max(x, y) < th as f64
 }
 
 pub fn ping_tou(th: u32, b1: Bar, b2: Bar) -> Pair
-    ensures { result ≡ pingTou th b1 b2 }
+    ensures { result ≡ ping_tou th b1 b2 }
 {
     let top = pick(is_flat(th, b2.high, b1.high), Label::Top, Label::Other);
     let standard = measures::body(b2) > measures::max(measures::body(b1), measures::upper(b1));

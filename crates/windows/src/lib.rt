@@ -2,12 +2,12 @@
 // equation with a definition of specs/, for every input.
 ghost use Rattle.std.specs.Prelude.{◌≡◌, ◌≤◌, length, take};
 ghost use Prim.Native.Nat as Nat;
-ghost use Rattle.prices.specs.Bar.{barsOf};
-ghost use Rattle.windows.specs.Window.{up_to, windowOf, pricesFrom, windowPrices, part_of};
+ghost use Rattle.prices.specs.Bar.{bars_of};
+ghost use Rattle.windows.specs.Window.{up_to, window_of, prices_from, window_prices, part_of};
 
 // How many bars a run of prices has.
 pub fn count(prices: &[f64]) -> usize
-    ensures { result ≡ length (barsOf prices.now) }
+    ensures { result ≡ length (bars_of prices.now) }
 {
     prices.len() / 4
 }
@@ -34,8 +34,8 @@ pub fn up_to(len: usize, di: usize) -> usize
 
 // The prices of the bars from one place of a run to another.
 fn part(prices: &[f64], from: usize, to: usize) -> &[f64]
-    requires { (from ≤ to) × (to ≤ length (barsOf prices.now)) }
-    ensures { result.now ≡ pricesFrom prices.now from to }
+    requires { (from ≤ to) × (to ≤ length (bars_of prices.now)) }
+    ensures { result.now ≡ prices_from prices.now from to }
 {
     let a = from * 4;
     let e = to * 4;
@@ -44,16 +44,16 @@ fn part(prices: &[f64], from: usize, to: usize) -> &[f64]
 
 // The prices of the first n bars of a run, or of all if there are fewer.
 pub fn first_bars(prices: &[f64], n: usize) -> &[f64]
-    ensures prices { result.now ≡ pricesFrom prices.now 0 (Nat.min n (length (barsOf prices.now))) }
-    ensures bars { barsOf result.now ≡ take n (barsOf prices.now) }
+    ensures prices { result.now ≡ prices_from prices.now 0 (Nat.min n (length (bars_of prices.now))) }
+    ensures bars { bars_of result.now ≡ take n (bars_of prices.now) }
 {
     part(prices, 0, least(n, count(prices)))
 }
 
 // The prices of the last n bars up to the judged one. Prices at the end of a run that make no whole bar are passed over.
 pub fn last_bars(prices: &[f64], di: usize, n: usize) -> &[f64]
-    ensures prices { result.now ≡ windowPrices prices.now di n }
-    ensures bars { barsOf result.now ≡ windowOf (barsOf prices.now) di n }
+    ensures prices { result.now ≡ window_prices prices.now di n }
+    ensures bars { bars_of result.now ≡ window_of (bars_of prices.now) di n }
 {
     let p = up_to(count(prices), di);
     part(prices, p - least(n, p), p)

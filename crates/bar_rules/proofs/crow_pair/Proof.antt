@@ -1,10 +1,10 @@
 -- The code is the definition.
-use Rattle.bar_rules.specs.BarRule.{crowPair}
+use Rattle.bar_rules.specs.BarRule.{crow_pair}
 use Rattle.bar_rules.proofs.crow_pair.Statement.{statement}
 use Rattle.bar_rules.proofs.crow_pair.Tie as tie
 
 returns : tie.Need-returns
-unfolding crowPair
+unfolding crow_pair
 returns c =
     simp (
       c.pick-pair3.ensures,

@@ -1,10 +1,10 @@
 -- The code is the definition.
-use Rattle.bar_rules.specs.BarRule.{gapYinYang}
+use Rattle.bar_rules.specs.BarRule.{gap_yin_yang}
 use Rattle.bar_rules.proofs.gap_yin_yang.Statement.{statement}
 use Rattle.bar_rules.proofs.gap_yin_yang.Tie as tie
 
 returns : tie.Need-returns
-unfolding gapYinYang
+unfolding gap_yin_yang
 returns c =
     simp (
       c.pick2.ensures,

@@ -1,10 +1,10 @@
 -- The code is the definition.
-use Rattle.bar_rules.specs.BarRule.{gapDownOf}
+use Rattle.bar_rules.specs.BarRule.{gap_down_of}
 use Rattle.bar_rules.proofs.is_gap_down.Statement.{statement}
 use Rattle.bar_rules.proofs.is_gap_down.Tie as tie
 
 returns : tie.Need-returns
-unfolding gapDownOf
+unfolding gap_down_of
 returns c =
     simp (
       c.is-alike.ensures,

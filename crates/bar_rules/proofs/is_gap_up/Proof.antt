@@ -1,10 +1,10 @@
 -- The code is the definition.
-use Rattle.bar_rules.specs.BarRule.{gapUpOf}
+use Rattle.bar_rules.specs.BarRule.{gap_up_of}
 use Rattle.bar_rules.proofs.is_gap_up.Statement.{statement}
 use Rattle.bar_rules.proofs.is_gap_up.Tie as tie
 
 returns : tie.Need-returns
-unfolding gapUpOf
+unfolding gap_up_of
 returns c =
     simp (
       c.is-alike.ensures,

@@ -1,5 +1,5 @@
 -- The code is the definition.
-use Rattle.bar_rules.specs.BarRule.{sanFaV20221115}
+use Rattle.bar_rules.specs.BarRule.{san_fa_v20221115}
 use borrow.Author.Rules.{rules}
 use Rattle.bar_rules.proofs.san_fa_v20221115.Statement.{statement}
 use Rattle.bar_rules.proofs.san_fa_v20221115.Tie as tie
@@ -11,7 +11,7 @@ int-to-float-far-2 : tie.Need-int-to-float-far-2
 int-to-float-far-2 c = search rules
 
 returns : tie.Need-returns
-unfolding sanFaV20221115
+unfolding san_fa_v20221115
 returns c =
     simp (
       c.pick3.ensures,

@@ -2,7 +2,7 @@
 use mathlib.Core.Path.{◌≡◌, refl, ◌∙◌, sym}
 use mathlib.Core.Bool.{Bool, true, false, cond, and-false}
 use Rattle.rule_types.specs.declared.label.Pair.{Pair}
-use Rattle.bar_rules.specs.BarRule.{threeCrow}
+use Rattle.bar_rules.specs.BarRule.{three_crow}
 use Rattle.bar_rules.proofs.three_crow.Statement.{statement}
 use Rattle.bar_rules.proofs.three_crow.Tie as tie
 
@@ -11,7 +11,7 @@ either true x = refl
 either false x = refl
 
 returns : tie.Need-returns
-unfolding threeCrow
+unfolding three_crow
 returns c =
     let gate = c.before.before.before in
     let test = gate.before in
@@ -22,14 +22,14 @@ returns c =
     simp (c.pick-pair.ensures, c.before.crow-pair.ensures, c.before.before.pair-a.ensures, gate.is-gate-shut.ensures, short, falling)
 
 returns-2 : tie.Need-returns-2
-unfolding threeCrow
+unfolding three_crow
 returns-2 c =
     let shadows = c.before.before in
     let short = sym shadows.have-short-shadows.ensures ∙ c.before.if2.false in
     simp (c.pair-a2.ensures, short, and-false, either)
 
 returns-3 : tie.Need-returns-3
-unfolding threeCrow
+unfolding three_crow
 returns-3 c =
     let falling = sym c.before.before.are-falling.ensures ∙ c.before.if1.false in
     simp (c.pair-a3.ensures, falling, either)

@@ -1,10 +1,10 @@
 -- The code is the definition.
-use Rattle.bar_rules.specs.BarRule.{twoCrow}
+use Rattle.bar_rules.specs.BarRule.{two_crow}
 use Rattle.bar_rules.proofs.two_crow.Statement.{statement}
 use Rattle.bar_rules.proofs.two_crow.Tie as tie
 
 returns : tie.Need-returns
-unfolding twoCrow
+unfolding two_crow
 returns c =
     simp (
       c.pick.ensures,

@@ -1,4 +1,4 @@
--- Each arm of the match is a case of checkOf, and of what is given of the shape.
+-- Each arm of the match is a case of check_of, and of what is given of the shape.
 use borrow.Author.Rules.{rules}
 use Rattle.growing_rules.proofs.check.Statement.{statement}
 use Rattle.growing_rules.proofs.check.Tie as tie

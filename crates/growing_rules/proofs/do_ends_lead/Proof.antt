@@ -1,12 +1,12 @@
 -- The scan carries the last but one of the bodies in non-falling order. Assumes nothing.
-use Rattle.growing_rules.specs.GrowingRule.{endsLead}
-use Rattle.growing_rules.specs.SearchSteps.{leadersOf}
+use Rattle.growing_rules.specs.GrowingRule.{ends_lead}
+use Rattle.growing_rules.specs.SearchSteps.{leaders_of}
 use Rattle.growing_rules.proofs.GrowingLaws.{last-but-one}
 use Rattle.growing_rules.proofs.do_ends_lead.Statement.{statement}
 use Rattle.growing_rules.proofs.do_ends_lead.Tie as tie
 
 returns : tie.Need-returns
-unfolding endsLead leadersOf
+unfolding ends_lead leaders_of
 returns c =
     let least = c.before.before in
     let last = least.before.before in

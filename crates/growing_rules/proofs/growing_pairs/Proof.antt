@@ -1,8 +1,8 @@
 -- Where the newest close is not beyond the first middle, the search would find nothing. Assumes nothing.
 use mathlib.Core.Path.{◌∙◌}
-use Rattle.measures.specs.Bar.{barsOf}
-use Rattle.growing_rules.specs.GrowingRule.{sanFaV20221118, taXing}
-use Rattle.growing_rules.specs.SearchSteps.{foundOf}
+use Rattle.measures.specs.Bar.{bars_of}
+use Rattle.growing_rules.specs.GrowingRule.{san_fa_v20221118, ta_xing}
+use Rattle.growing_rules.specs.SearchSteps.{found_of}
 use Rattle.growing_rules.proofs.GrowingNeeds.{no-growing}
 use Rattle.growing_rules.proofs.growing_pairs.Statement.{statement}
 use Rattle.growing_rules.proofs.growing_pairs.Tie as tie
@@ -11,16 +11,16 @@ search-requires : tie.Need-search-requires
 search-requires c κs = c.before.before.before.first-middle.ensures
 
 returns : tie.Need-returns
-unfolding sanFaV20221118 taXing foundOf
+unfolding san_fa_v20221118 ta_xing found_of
 returns c = c.search.ensures
 
 returns-2 : tie.Need-returns-2
-unfolding sanFaV20221118 taXing foundOf
+unfolding san_fa_v20221118 ta_xing found_of
 returns-2 c =
     let test = c.before.before in
     let first = test.before.before in
     let within = rw (test.is-beyond.ensures, test.before.back.ensures, first.first-middle.ensures) at c.before.if1.false in
-    c.no-match.ensures ∙ no-growing (record { methods = 9; tower = 10 }) (barsOf first.before.before.args.w.now) within
+    c.no-match.ensures ∙ no-growing (record { methods = 9; tower = 10 }) (bars_of first.before.before.args.w.now) within
 
 pub growing-pairs-spec : {M : Type 1} → statement M
 growing-pairs-spec = tie.close (tie.spec (λ c κs. tt) (λ c κs. tt) (λ c κs. tt) search-requires (λ c κs. tt) returns returns-2)

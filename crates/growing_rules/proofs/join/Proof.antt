@@ -1,10 +1,10 @@
 -- The code is the definition.
-use Rattle.growing_rules.specs.SearchSteps.{bodyJoined}
+use Rattle.growing_rules.specs.SearchSteps.{body_joined}
 use Rattle.growing_rules.proofs.join.Statement.{statement}
 use Rattle.growing_rules.proofs.join.Tie as tie
 
 returns : tie.Need-returns
-unfolding bodyJoined
+unfolding body_joined
 returns c =
     simp (
       c.before.is-nan.ensures,

@@ -3,17 +3,17 @@ use Prim.Native.Nat.{◌+◌, ◌-◌, ◌≤◌}
 use mathlib.Core.Path.{◌≡◌, ◌∙◌}
 use native.Mathlib.Omega.{arith}
 use borrow.Author.Tests.{not-true}
-use Rattle.measures.specs.Bar.{barsOf}
-use Rattle.measures.specs.Window.{backOf}
-use Rattle.middles.specs.MiddleSteps.{middleAt}
-use Rattle.growing_rules.specs.SearchSteps.{beyond, searchedOf}
+use Rattle.measures.specs.Bar.{bars_of}
+use Rattle.measures.specs.Window.{back_of}
+use Rattle.middles.specs.MiddleSteps.{middle_at}
+use Rattle.growing_rules.specs.SearchSteps.{beyond, searched_of}
 use Rattle.growing_rules.proofs.GrowingNeeds.{search-ends, searched-none}
 use Rattle.middles.proofs.MiddleLaws.{at-grown}
 use Rattle.growing_rules.proofs.search.Statement.{statement}
 use Rattle.growing_rules.proofs.search.Tie as tie
 
 abbrev invariant-loop : tie.invariant-loop
-invariant-loop ends w first last found₀ n₀ m found n = (5 ≤ n) × (n ≤ 10) × (m ≡ middleAt (barsOf w) n) × (found ≡ searchedOf ends (barsOf w) n)
+invariant-loop ends w first last found₀ n₀ m found n = (5 ≤ n) × (n ≤ 10) × (m ≡ middle_at (bars_of w) n) × (found ≡ searched_of ends (bars_of w) n)
 
 abbrev decreases-loop : tie.decreases-loop
 decreases-loop ends w first last found₀ n₀ m found n = 10 - n
@@ -21,7 +21,7 @@ decreases-loop ends w first last found₀ n₀ m found n = 10 - n
 loop-holds : tie.Need-loop-init invariant-loop decreases-loop
 loop-holds c =
     let start = c.before.before.before in
-    (omega arith, omega arith, start.requires, c.no-match.ensures ∙ searched-none start.args.ends (barsOf start.args.w.now))
+    (omega arith, omega arith, start.requires, c.no-match.ensures ∙ searched-none start.args.ends (bars_of start.args.w.now))
 
 try-window-requires : tie.Need-try-window-requires invariant-loop decreases-loop
 try-window-requires c κs = let now = c.before.loop in (omega arith, omega arith, now.invariant.3, now.invariant.2)
@@ -36,10 +36,10 @@ returns c =
     let at-loop = tried.before.before in
     let read = at-loop.before.before in
     let a = read.before.before.args in
-    let w = barsOf a.w.now in
+    let w = bars_of a.w.now in
     let now = at-loop.loop in
     let unmet = rw (c.before.is-beyond.ensures, read.back.ensures, grown.grow.ensures, now.invariant.2, at-grown w now.n (omega arith)) at c.if1.true in
-    tried.try-window.ensures ∙ search-ends w (now.n + 1) (omega arith) (omega arith) (not-true (beyond (backOf w 1) (middleAt w (now.n + 1))) unmet) a.ends
+    tried.try-window.ensures ∙ search-ends w (now.n + 1) (omega arith) (omega arith) (not-true (beyond (back_of w 1) (middle_at w (now.n + 1))) unmet) a.ends
 
 loop-less : tie.Need-loop-smaller invariant-loop decreases-loop
 loop-less c = omega arith
@@ -49,7 +49,7 @@ loop-again c =
     let grown = c.before.before in
     let at-loop = grown.before.before.before in
     let now = at-loop.loop in
-    let w = barsOf at-loop.before.before.before.before.args.w.now in
+    let w = bars_of at-loop.before.before.before.before.args.w.now in
     (omega arith, omega arith, rw (grown.grow.ensures, now.invariant.2, at-grown w now.n (omega arith)), grown.before.try-window.ensures)
 
 returns-2 : tie.Need-returns-2 invariant-loop decreases-loop

@@ -1,9 +1,9 @@
 -- Where the newest close is not beyond the first middle, the search would find nothing. Assumes nothing.
 use mathlib.Core.Path.{ap, ◌∙◌}
-use Rattle.measures.specs.Bar.{barsOf}
+use Rattle.measures.specs.Bar.{bars_of}
 use Rattle.growing_rules.specs.declared.Growing.{Growing}
-use Rattle.growing_rules.specs.GrowingRule.{taXing}
-use Rattle.growing_rules.specs.SearchSteps.{foundOf}
+use Rattle.growing_rules.specs.GrowingRule.{ta_xing}
+use Rattle.growing_rules.specs.SearchSteps.{found_of}
 use Rattle.growing_rules.proofs.GrowingNeeds.{no-growing}
 use Rattle.growing_rules.proofs.ta_xing.Statement.{statement}
 use Rattle.growing_rules.proofs.ta_xing.Tie as tie
@@ -12,16 +12,16 @@ search-requires : tie.Need-search-requires
 search-requires c κs = c.before.before.before.first-middle.ensures
 
 returns : tie.Need-returns
-unfolding taXing foundOf
+unfolding ta_xing found_of
 returns c = rw c.before.search.ensures
 
 returns-2 : tie.Need-returns-2
-unfolding taXing foundOf
+unfolding ta_xing found_of
 returns-2 c =
     let test = c.before.before in
     let first = test.before.before in
     let within = rw (test.is-beyond.ensures, test.before.back.ensures, first.first-middle.ensures) at c.before.if1.false in
-    let none = no-growing (record { methods = 0; tower = 10 }) (barsOf first.before.before.args.w.now) within in
+    let none = no-growing (record { methods = 0; tower = 10 }) (bars_of first.before.before.args.w.now) within in
     c.pair-a.ensures ∙ ap (λ (g : Growing). g.tower) none
 
 pub ta-xing-spec : {M : Type 1} → statement M

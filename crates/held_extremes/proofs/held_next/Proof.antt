@@ -2,10 +2,10 @@
 use Prim.Native.Nat.{◌-◌}
 use mathlib.Core.Path.{◌≡◌, ap, ◌∙◌}
 use lib.ListN.{length}
-use Rattle.measures.specs.Bar.{barsOf}
+use Rattle.measures.specs.Bar.{bars_of}
 use Rattle.measures.specs.declared.folds.Column.TheVariants.{High, Low}
 use Rattle.held_extremes.specs.Candidate.{greater, smaller}
-use Rattle.held_extremes.specs.CandidateSteps.{nextOrdinals, nextHeld}
+use Rattle.held_extremes.specs.CandidateSteps.{next_ordinals, next_held}
 use Rattle.held_extremes.proofs.HeldLaws.{by-places}
 use Rattle.held_extremes.proofs.KeepLaws.{over_zeros}
 use borrow.Author.Rules.{rules}
@@ -37,22 +37,22 @@ array-read-low-with : tie.Need-array-read-low-with
 array-read-low-with c = search rules
 
 returns : tie.Need-returns
-unfolding nextHeld
+unfolding next_held
 returns c =
     let top = c.before in
     let second = top.before.before in
     let first = second.before.before.before.before in
     let before = first.before.before.before.before.before in
     let start = before.before.before.before in
-    let bars = barsOf start.args.prices.now in
+    let bars = bars_of start.args.prices.now in
     let e : before.Before-of.result ≡ start.args.last - length bars = before.Before-of.ensures ∙ ap (λ k. start.args.last - k) before.before.count.ensures in
     let last = start.args.last in
     let h = start.args.h in
     let b = before.Before-of.result in
     rw (← e)
     (by-places before.Before-of.result bars _ _ _ _ _ _ top.high-with.ensures c.low-with.ensures
-    (first.next-places.ensures ∙ over_zeros (nextOrdinals greater High b last bars h.highs))
-    (second.next-places2.ensures ∙ over_zeros (nextOrdinals smaller Low b last bars h.lows)))
+    (first.next-places.ensures ∙ over_zeros (next_ordinals greater High b last bars h.highs))
+    (second.next-places2.ensures ∙ over_zeros (next_ordinals smaller Low b last bars h.lows)))
 
 pub held-next-spec : {M : Type 1} → statement M
 held-next-spec =

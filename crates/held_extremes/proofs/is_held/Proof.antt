@@ -1,8 +1,8 @@
 -- What is given is compared with what stands there. Assumes nothing.
 use mathlib.Core.Bool.{◌&&◌}
 use mathlib.Core.Path.{◌≡◌, sym, ap, ◌∙◌}
-use Rattle.held_extremes.specs.Candidate.{sameHeld}
-use Rattle.held_extremes.specs.CandidateSteps.{standsIn}
+use Rattle.held_extremes.specs.Candidate.{same_held}
+use Rattle.held_extremes.specs.CandidateSteps.{stands_in}
 use Rattle.held_extremes.proofs.SameLaws.{held-is}
 use borrow.Author.Rules.{rules}
 use Rattle.held_extremes.proofs.is_held.Statement.{statement}
@@ -30,7 +30,7 @@ is-part-requires-2 : tie.Need-is-part-requires-2
 is-part-requires-2 c κs = search rules
 
 returns : tie.Need-returns
-unfolding sameHeld
+unfolding same_held
 returns c =
     let highs = c.before.before in
     let lowest = highs.before.before in
@@ -38,10 +38,10 @@ returns c =
     let stand = highest.before.before.before.before.before in
     let h = stand.before.before.before.before.args.h in
     let full = stand.stand.ensures.2 in
-    let made = standsIn stand.stand.result stand.stand.new.1.1.0 stand.stand.new.1.1.1.0 in
-    let tests : (highest.same-price.result && lowest.same-price2.result && highs.is-part.result && c.is-part2.result) ≡ sameHeld h made =
+    let made = stands_in stand.stand.result stand.stand.new.1.1.0 stand.stand.new.1.1.1.0 in
+    let tests : (highest.same-price.result && lowest.same-price2.result && highs.is-part.result && c.is-part2.result) ≡ same_held h made =
     rw (highest.same-price.ensures.0, lowest.same-price2.ensures.0, highs.is-part.ensures, c.is-part2.ensures) in
-    (tests ∙ ap (sameHeld h) full, λ same. held-is h made (λ x. highest.same-price.ensures.1 (highest.same-price.ensures.0 ∙ x)) (λ x. lowest.same-price2.ensures.1 (lowest.same-price2.ensures.0 ∙ x)) (sym tests ∙ same) ∙ full)
+    (tests ∙ ap (same_held h) full, λ same. held-is h made (λ x. highest.same-price.ensures.1 (highest.same-price.ensures.0 ∙ x)) (λ x. lowest.same-price2.ensures.1 (lowest.same-price2.ensures.0 ∙ x)) (sym tests ∙ same) ∙ full)
 
 pub is-held-spec : {M : Type 1} → statement M
 is-held-spec =

@@ -4,21 +4,21 @@ use mathlib.Core.Path.{◌≡◌, refl, sym}
 use native.Mathlib.Omega.{arith}
 use borrow.Author.Rules.{rules}
 use lib.ListN.{length, take, length-set}
-use Rattle.measures.specs.Bar.{barsOf, overlay}
+use Rattle.measures.specs.Bar.{bars_of, overlay}
 use Rattle.measures.proofs.Overlay.{overlay-none}
-use Rattle.rule_types.specs.Number.{quarterBars}
-use Rattle.held_extremes.specs.CandidateSteps.{beyondFor, columnFor, barPrice}
+use Rattle.rule_types.specs.Number.{quarter_bars}
+use Rattle.held_extremes.specs.CandidateSteps.{beyond_for, column_for, bar_price}
 use Rattle.held_extremes.proofs.KeepLaws.{left, Passed, room-ends, all_pass, one_passes}
 use Rattle.held_extremes.proofs.keep.Statement.{statement}
 use Rattle.held_extremes.proofs.keep.Tie as tie
 
 abbrev invariant-loop : tie.invariant-loop
 invariant-loop high c from w before y out₀ i₀ out i =
-    let price = barPrice (columnFor high) before (barsOf w) in
-    (i ≤ quarterBars - 1) × (length out ≡ quarterBars) × (out ≡ overlay out₀ 0 (take i (left c from))) × Passed (beyondFor high) y price (left c from) i
+    let price = bar_price (column_for high) before (bars_of w) in
+    (i ≤ quarter_bars - 1) × (length out ≡ quarter_bars) × (out ≡ overlay out₀ 0 (take i (left c from))) × Passed (beyond_for high) y price (left c from) i
 
 abbrev decreases-loop : tie.decreases-loop
-decreases-loop high c from w before y out₀ i₀ out i = quarterBars - i
+decreases-loop high c from w before y out₀ i₀ out i = quarter_bars - i
 
 loop-holds : tie.Need-loop-init invariant-loop decreases-loop
 loop-holds c = (search rules, c.before.before.before.requires.2, sym (overlay-none c.before.before.before.args.out.now 0), refl)
@@ -45,7 +45,7 @@ returns c =
     let start = at-loop.before.before.before.before in
     let a = start.args in
     let inv = at-loop.loop.invariant in
-    room-ends (beyondFor a.high) a.y (barPrice (columnFor a.high) a.before (barsOf a.w.now)) a.c.now a.from start.requires.0 start.requires.1 a.out.now _ at-loop.loop.i inv.2 inv.3
+    room-ends (beyond_for a.high) a.y (bar_price (column_for a.high) a.before (bars_of a.w.now)) a.c.now a.from start.requires.0 start.requires.1 a.out.now _ at-loop.loop.i inv.2 inv.3
     room.is-room.result (omega (arith, room.before.before.loop-test.true)) room.is-room.ensures c.if1.true
 
 mul-out : tie.Need-overflow-mul-out invariant-loop decreases-loop
@@ -67,7 +67,7 @@ loop-again c =
     let start = at-loop.before.before.before.before in
     let a = start.args in
     let inv = at-loop.loop.invariant in
-    let next = one_passes (beyondFor a.high) a.y (barPrice (columnFor a.high) a.before (barsOf a.w.now)) a.c.now a.from start.requires.0 start.requires.1 a.out.now _ at-loop.loop.i inv.2 inv.3
+    let next = one_passes (beyond_for a.high) a.y (bar_price (column_for a.high) a.before (bars_of a.w.now)) a.c.now a.from start.requires.0 start.requires.1 a.out.now _ at-loop.loop.i inv.2 inv.3
     room.is-room.result (omega (arith, room.before.before.loop-test.true)) start.requires.2 room.is-room.ensures c.if1.false in
     (omega (arith, room.before.before.loop-test.true), simp length-set inv.1, next.0, next.1)
 
@@ -80,7 +80,7 @@ returns-2 c =
     let start = at-loop.before.before.before.before in
     let a = start.args in
     let inv = at-loop.loop.invariant in
-    all_pass (beyondFor a.high) a.y (barPrice (columnFor a.high) a.before (barsOf a.w.now)) a.c.now a.from start.requires.0 start.requires.1 a.out.now _ at-loop.loop.i inv.2 inv.3 inv.0 (omega (arith, c.loop-test.false))
+    all_pass (beyond_for a.high) a.y (bar_price (column_for a.high) a.before (bars_of a.w.now)) a.c.now a.from start.requires.0 start.requires.1 a.out.now _ at-loop.loop.i inv.2 inv.3 inv.0 (omega (arith, c.loop-test.false))
 
 pub keep_spec : {M : Type 1} → statement M
 keep_spec =

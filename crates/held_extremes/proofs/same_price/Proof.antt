@@ -2,7 +2,7 @@
 use mathlib.Core.Path.{◌≡◌, ◌∙◌, sym}
 use lib.Dec.{eqb}
 use lib.Ieee.{binary64, to_bits}
-use Rattle.held_extremes.specs.Candidate.{samePrice}
+use Rattle.held_extremes.specs.Candidate.{same_price}
 use mathlib.Core.Bool.{false≢true}
 use Rattle.held_extremes.proofs.SameLaws.{price-is}
 use Rattle.held_extremes.proofs.PartLaws.{first-known, second-known}
@@ -20,7 +20,7 @@ returns c =
     let start = c.before in
     let x = start.args.x in
     let y = start.args.y in
-    let e : eqb (to_bits binary64 x) (to_bits binary64 y) ≡ samePrice x y = simp c.if1.true in
+    let e : eqb (to_bits binary64 x) (to_bits binary64 y) ≡ same_price x y = simp c.if1.true in
     (e, λ same. price-is x y start.well-formed.0.1 start.well-formed.1.0.1 (sym e ∙ same))
 
 returns-2 : tie.Need-returns-2

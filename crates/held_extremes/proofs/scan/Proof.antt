@@ -5,10 +5,10 @@ use native.Mathlib.Omega.{arith}
 use borrow.Author.Rules.{rules}
 use lib.ListN.{length, get_or, drop}
 use lib.Ieee.{le}
-use Rattle.measures.specs.Bar.{barsOf, noBar}
+use Rattle.measures.specs.Bar.{bars_of, no_bar}
 use Rattle.measures.specs.declared.folds.Column.TheVariants.{High, Low}
-use Rattle.measures.specs.Fold.{columnOf}
-use Rattle.rule_types.specs.Number.{quarterBars}
+use Rattle.measures.specs.Fold.{column_of}
+use Rattle.rule_types.specs.Number.{quarter_bars}
 use Rattle.held_extremes.specs.Candidate.{greater, smaller}
 use Rattle.held_extremes.proofs.CandidateLaws.{rising, falling, highest, lowest}
 use mathlib.Core.List.{◌∷◌}
@@ -18,10 +18,10 @@ use Rattle.held_extremes.proofs.scan.Tie as tie
 
 abbrev invariant-loop : tie.invariant-loop
 invariant-loop w before highs₀ lows₀ high₀ low₀ top₀ bottom₀ i₀ highs lows high low top bottom i =
-    (i ≤ length (barsOf w)) × (length highs ≡ 2 * quarterBars + 1) × (length lows ≡ 2 * quarterBars + 1)
-    × (high ≤ quarterBars) × (quarterBars + i ≤ high + length (barsOf w)) × (low ≤ quarterBars) × (quarterBars + i ≤ low + length (barsOf w))
-    × Scanned greater highs (high + 1) top (before + i) (drop i (columnOf High (barsOf w)))
-    × Scanned smaller lows (low + 1) bottom (before + i) (drop i (columnOf Low (barsOf w)))
+    (i ≤ length (bars_of w)) × (length highs ≡ 2 * quarter_bars + 1) × (length lows ≡ 2 * quarter_bars + 1)
+    × (high ≤ quarter_bars) × (quarter_bars + i ≤ high + length (bars_of w)) × (low ≤ quarter_bars) × (quarter_bars + i ≤ low + length (bars_of w))
+    × Scanned greater highs (high + 1) top (before + i) (drop i (column_of High (bars_of w)))
+    × Scanned smaller lows (low + 1) bottom (before + i) (drop i (column_of Low (bars_of w)))
 
 abbrev decreases-loop : tie.decreases-loop
 decreases-loop w before highs₀ lows₀ high₀ low₀ top₀ bottom₀ i₀ highs lows high low top bottom i = i
@@ -29,7 +29,7 @@ decreases-loop w before highs₀ lows₀ high₀ low₀ top₀ bottom₀ i₀ hi
 loop-holds : tie.Need-loop-init invariant-loop decreases-loop
 loop-holds c =
     let start = c.before.before.before.before.before.before in
-    let bars = barsOf start.args.w.now in
+    let bars = bars_of start.args.w.now in
     let n : c.count.result ≡ length bars = c.count.ensures in (
       omega arith,
       start.requires.2,
@@ -38,8 +38,8 @@ loop-holds c =
       omega arith,
       omega arith,
       omega arith,
-      scan-starts greater _ _ highest High _ start.args.highs.now (quarterBars + 1) _ _ bars c.before.before.minus-infinity.ensures n start.requires.4,
-      scan-starts smaller _ _ lowest Low _ start.args.lows.now (quarterBars + 1) _ _ bars c.before.plus-infinity.ensures n start.requires.5,
+      scan-starts greater _ _ highest High _ start.args.highs.now (quarter_bars + 1) _ _ bars c.before.before.minus-infinity.ensures n start.requires.4,
+      scan-starts smaller _ _ lowest Low _ start.args.lows.now (quarter_bars + 1) _ _ bars c.before.plus-infinity.ensures n start.requires.5,
     )
 
 cast-ordinal : tie.Need-overflow-cast-ordinal invariant-loop decreases-loop
@@ -68,15 +68,15 @@ loop-again c =
     let read = one.before.before.before in
     let at-loop = read.before.before in
     let start = at-loop.before.before.before.before.before.before.before in
-    let bars = barsOf start.args.w.now in
+    let bars = bars_of start.args.w.now in
     let i = at-loop.loop.i in
     let inv = at-loop.loop.invariant in
     let some : 1 ≤ i = omega (arith, read.before.loop-test.true) in
     let here : start.args.before + i ≡ start.args.before + (i - 1) + 1 = omega (arith, some) in
     let b = read.bar-or-none.result in
-    let is : get_or bars (i - 1) noBar ≡ b = sym read.bar-or-none.ensures in
-    let highs : drop (i - 1) (columnOf High bars) ≡ b.high ∷ drop i (columnOf High bars) = rw is at (column-from High bars i some inv.0) in
-    let lows : drop (i - 1) (columnOf Low bars) ≡ b.low ∷ drop i (columnOf Low bars) = rw is at (column-from Low bars i some inv.0) in
+    let is : get_or bars (i - 1) no_bar ≡ b = sym read.bar-or-none.ensures in
+    let highs : drop (i - 1) (column_of High bars) ≡ b.high ∷ drop i (column_of High bars) = rw is at (column-from High bars i some inv.0) in
+    let lows : drop (i - 1) (column_of Low bars) ≡ b.low ∷ drop i (column_of Low bars) = rw is at (column-from Low bars i some inv.0) in
     let up = stays_within (le at-loop.loop.top b.high) one.enter.result at-loop.loop.high i (length bars) one.enter.ensures.0 inv.3 inv.4 some inv.0 in
     let down = stays_within (le b.low at-loop.loop.bottom) two.enter2.result at-loop.loop.low i (length bars) two.enter2.ensures.0 inv.5 inv.6 some inv.0 in (
       omega (arith, inv.0),

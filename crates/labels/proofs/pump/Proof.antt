@@ -11,7 +11,7 @@ use lib.Seq.{length-take-le}
 use Rattle.input_lines.proofs.PartLaws.{to_end}
 use Rattle.input_lines.proofs.RunLaws.{both}
 use Rattle.label_lines.specs.declared.session.Absorbed.{Absorbed}
-use Rattle.label_lines.specs.Session.{State, usedOf}
+use Rattle.label_lines.specs.Session.{State, used_of}
 use Rattle.label_lines.proofs.SessionLaws.{used-some, used-most}
 use Rattle.labels.proofs.pump.Statement.{statement}
 use Rattle.labels.proofs.pump.Tie as tie
@@ -30,7 +30,7 @@ module _ (chunk : List ℕ) (at : ℕ) where
   rest_some : at < length chunk → 1 ≤ length (take (length chunk - at) (drop at chunk))
   rest_some inside = rw rest (omega (arith, inside))
 
-  within : (n : ℕ) → at ≤ length chunk → (room : ℕ) (s : State) → n ≡ usedOf room s (take (length chunk - at) (drop at chunk)) → at + n ≤ length chunk
+  within : (n : ℕ) → at ≤ length chunk → (room : ℕ) (s : State) → n ≡ used_of room s (take (length chunk - at) (drop at chunk)) → at + n ≤ length chunk
   within n inside room s e = omega (arith, used-most room s (take (length chunk - at) (drop at chunk)), rest)
 
 large-buffer-requires : tie.Need-large-buffer-requires invariant-loop decreases-loop

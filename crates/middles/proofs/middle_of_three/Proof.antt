@@ -1,13 +1,13 @@
 -- The folds' steps, by one comparison a price. Assumes nothing.
 use mathlib.Core.Bool.{and-true}
-use Rattle.measures.specs.Fold.{columnOf, everyOf, extremesOf}
+use Rattle.measures.specs.Fold.{column_of, every_of, extremes_of}
 use Rattle.middles.specs.MiddleSteps.{middle_of}
 use Rattle.middles.proofs.MiddleLaws.{top-of-three, bottom-of-three}
 use Rattle.middles.proofs.middle_of_three.Statement.{statement}
 use Rattle.middles.proofs.middle_of_three.Tie as tie
 
 returns : tie.Need-returns
-unfolding middle_of extremesOf columnOf everyOf
+unfolding middle_of extremes_of column_of every_of
 returns c =
     let low = c.before.before.before in
     let sixth = low.before.before.before in

@@ -1,10 +1,10 @@
 -- The other quotients only matter where the first is great enough. Assumes nothing.
-use Rattle.quarter_rules.specs.QuarterRule.{countersOf}
+use Rattle.quarter_rules.specs.QuarterRule.{counters_of}
 use Rattle.quarter_rules.proofs.counters.Statement.{statement}
 use Rattle.quarter_rules.proofs.counters.Tie as tie
 
 returns : tie.Need-returns
-unfolding countersOf
+unfolding counters_of
 returns c =
     let then = c.before.before.before.before in
     let first = then.before.before in
@@ -13,7 +13,7 @@ returns c =
     simp (c.before.abs2.ensures, size.body.ensures, far)
 
 returns-2 : tie.Need-returns-2
-unfolding countersOf
+unfolding counters_of
 returns-2 c =
     let first = c.before.before in
     let size = first.before.before.before in

@@ -1,10 +1,10 @@
 -- The code is the definition.
-use Rattle.quarter_rules.specs.QuarterRule.{fenShouXian}
+use Rattle.quarter_rules.specs.QuarterRule.{fen_shou_xian}
 use Rattle.quarter_rules.proofs.fen_shou_xian.Statement.{statement}
 use Rattle.quarter_rules.proofs.fen_shou_xian.Tie as tie
 
 returns : tie.Need-returns
-unfolding fenShouXian
+unfolding fen_shou_xian
 returns c =
     simp (
       c.pick3.ensures,

@@ -1,5 +1,5 @@
 -- The code is the definition.
-use Rattle.quarter_rules.specs.QuarterRule.{candleOf}
+use Rattle.quarter_rules.specs.QuarterRule.{candle_of}
 use Rattle.std.proofs.Common.{rules}
 use Rattle.quarter_rules.proofs.is_candle.Statement.{statement}
 use Rattle.quarter_rules.proofs.is_candle.Tie as tie
@@ -8,7 +8,7 @@ int-to-float-result : tie.Need-int-to-float-result
 int-to-float-result c = search rules
 
 returns : tie.Need-returns
-unfolding candleOf
+unfolding candle_of
 returns c =
     simp (
       c.before.before.before.before.body.ensures,

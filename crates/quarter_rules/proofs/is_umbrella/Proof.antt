@@ -1,10 +1,10 @@
 -- The code is the definition.
-use Rattle.quarter_rules.specs.QuarterRule.{umbrellaOf}
+use Rattle.quarter_rules.specs.QuarterRule.{umbrella_of}
 use Rattle.quarter_rules.proofs.is_umbrella.Statement.{statement}
 use Rattle.quarter_rules.proofs.is_umbrella.Tie as tie
 
 returns : tie.Need-returns
-unfolding umbrellaOf
+unfolding umbrella_of
 returns c =
     simp (
       c.upper.ensures,

@@ -1,10 +1,10 @@
 -- The code is the definition.
-use Rattle.quarter_rules.specs.QuarterRule.{sanXingXian}
+use Rattle.quarter_rules.specs.QuarterRule.{san_xing_xian}
 use Rattle.quarter_rules.proofs.san_xing_xian.Statement.{statement}
 use Rattle.quarter_rules.proofs.san_xing_xian.Tie as tie
 
 returns : tie.Need-returns
-unfolding sanXingXian
+unfolding san_xing_xian
 returns c =
     simp (
       c.pick3.ensures,

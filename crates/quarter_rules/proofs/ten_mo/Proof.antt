@@ -1,10 +1,10 @@
 -- The code is the definition.
-use Rattle.quarter_rules.specs.QuarterRule.{tenMo}
+use Rattle.quarter_rules.specs.QuarterRule.{ten_mo}
 use Rattle.quarter_rules.proofs.ten_mo.Statement.{statement}
 use Rattle.quarter_rules.proofs.ten_mo.Tie as tie
 
 returns : tie.Need-returns
-unfolding tenMo
+unfolding ten_mo
 returns c =
     simp (
       c.pick3.ensures,

@@ -1,10 +1,10 @@
 -- The code is the definition.
-use Rattle.quarter_rules.specs.QuarterRule.{zhuHuoXian}
+use Rattle.quarter_rules.specs.QuarterRule.{zhu_huo_xian}
 use Rattle.quarter_rules.proofs.zhu_huo_xian.Statement.{statement}
 use Rattle.quarter_rules.proofs.zhu_huo_xian.Tie as tie
 
 returns : tie.Need-returns
-unfolding zhuHuoXian
+unfolding zhu_huo_xian
 returns c =
     simp (
       c.pick3.ensures,

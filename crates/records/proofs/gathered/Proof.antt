@@ -55,11 +55,11 @@ use denote.Triple.Statement.{Contract, Triple}
 use denote.Triple.Table.{entered, cited}
 use denote.Triple.Walked.{says, needs, Stays, stay_none_slice, stay_none, walk_of, Goes-none_slice, Goes-none, Walks, ends_at, walked, walk_Meets}
 use denote.Exit.{yes}
-use Rattle.measures.specs.Bar.{Bar, noBar}
-use Rattle.recognisers.specs.Number.{reachBars}
+use Rattle.measures.specs.Bar.{Bar, no_bar}
+use Rattle.recognisers.specs.Number.{reach_bars}
 use Rattle.records.specs.declared.Window.{Window}
-use Rattle.records.specs.HeldSteps.{windowBars}
-use Rattle.records.proofs.HeldLaws.{withBar, no-bars, next-bar}
+use Rattle.records.specs.HeldSteps.{window_bars}
+use Rattle.records.proofs.HeldLaws.{with_bar, no-bars, next-bar}
 use Rattle.records.proofs.Walk.{own, own-usize}
 use Rattle.measures.specs.contracts.runs.put_bar as put
 use Rattle.measures.proofs.runs.put_bar.Symbol as put-def
@@ -88,13 +88,13 @@ window-val w = LL.tuple_val N.the_type N'.the_laws ((N.the_type).to w)
 
 -- an array of prices: its type, its machine value, and a slice of it
 abbrev Prices : RattleType
-Prices = Array f64 (4 * reachBars)
+Prices = Array f64 (4 * reach_bars)
 
 abbrev stayed : Stays (f.ended).signature.params (f.ended).kept
 stayed = (stay_none_slice (0 ∷ []) tt (plain (λ _. T.the_row)) yes, (stay_none (λ _. usize) yes, (stay_none (λ _. usize) yes, (stay_none (λ _. Prices) yes, tt))))
 
 abbrev prices-ty : Ty
-prices-ty = ty_array (ty_float binary64) (4 * reachBars)
+prices-ty = ty_array (ty_float binary64) (4 * reach_bars)
 
 abbrev prices-val : List Float → List Val
 prices-val = array_vals (float_vals binary64)
@@ -108,14 +108,14 @@ same [] = refl
 same (x ∷ xs) = ap (λ (ys : List Float). x ∷ ys) (same xs)
 
 is-prices : (xs : List Float) (vs : List Val) → Is Prices xs vs → Is Prices xs (prices-val xs)
-is-prices xs vs is = subst (Is Prices xs) (Array-Tells f64 (float_vals binary64) (float_Tells binary64) (4 * reachBars) xs vs is) is
+is-prices xs vs is = subst (Is Prices xs) (Array-Tells f64 (float_vals binary64) (float_Tells binary64) (4 * reach_bars) xs vs is) is
 
 -- the contract that the proof cites
 abbrev Put : {M : Type 1} {𝓤 : Ura M} (𝓛 : Logic 𝓤) (mem : Memory → SProp 𝓤) (run : Routine → Fun 𝓤) → Contract 𝓤
 Put 𝓛 mem run = triple_of 𝓛 put.signature (put.spec 𝓛 mem run)
 
 module _ {M : Type 1} {𝓤 : Ura M} (𝓛 : Logic 𝓤) (mem : Memory → SProp 𝓤) (run : Routine → Fun 𝓤) (κ : Lft) (q : Share) (b o : ℕ) (γ : GName) (ys : List Bar) (from₀ n : ℕ) (ps₀ : List Float)
-    (gn : Room T.the_row (length ys)) (gf : from₀ < 2 ^ 64) (ge : n < 2 ^ 64) (is₀ : Is Prices ps₀ (prices-val ps₀)) (inside : from₀ + n ≤ length ys) (room : n ≤ reachBars) where
+    (gn : Room T.the_row (length ys)) (gf : from₀ < 2 ^ 64) (ge : n < 2 ^ 64) (is₀ : Is Prices ps₀ (prices-val ps₀)) (inside : from₀ + n ≤ length ys) (room : n ≤ reach_bars) where
   open 𝓛 use {H, A}
 
   abbrev x : MutBor (List Bar) × (ℕ × (ℕ × (List Float × Unit {0})))
@@ -130,18 +130,18 @@ module _ {M : Type 1} {𝓤 : Ura M} (𝓛 : Logic 𝓤) (mem : Memory → SProp
   abbrev Own : Fml
   Own = (ShrSlice (named 0) κ T.the_row).own_val x.0 at.0
 
-  exits : (w : Window) (u : Val) → Is N.the_row w (u ∷ []) → (w.count ≡ n) × (windowBars w ≡ take n (drop-first from₀ ys)) → ent 𝓤 (⋆ 𝓛 (‵ (flft κ q) ∷ ‵ Own ∷ [])) (Post u)
+  exits : (w : Window) (u : Val) → Is N.the_row w (u ∷ []) → (w.count ≡ n) × (window_bars w ≡ take n (drop-first from₀ ys)) → ent 𝓤 (⋆ 𝓛 (‵ (flft κ q) ∷ ‵ Own ∷ [])) (Post u)
   exits w u is e =
       qed 𝓛 (‵ (flft κ q) ∷ ‵ Own ∷ []) ∵
       suffices ! _ (ends_at 𝓛 f.ended stayed (f.clauses 𝓛 mem run) (((κ, tt), (q, tt), tt, x, at), tt) u w (tt, (tt, (tt, (tt, tt)))) (tt, (tt, (tt, (tt, tt))))) $ says ! e $
       nothing ! $ move ! (1 ∷ 0 ∷ []) $ join ! $ nothing ! $
-      own 𝓛 Prices (Array-Makes 𝓛 f64 (float_Makes 𝓛 binary64) (4 * reachBars)) ps₀ _ is₀ $ own-usize 𝓛 n ge $
+      own 𝓛 Prices (Array-Makes 𝓛 f64 (float_Makes 𝓛 binary64) (4 * reach_bars)) ps₀ _ is₀ $ own-usize 𝓛 n ge $
       own-usize 𝓛 from₀ gf $ move ! (2 ∷ 0 ∷ []) $ fjoin ! $ move ! (1 ∷ 0 ∷ []) $
       frame ! $ frame ! $ owned ! N.the_row (Is N.the_row) (LL.makes N.the_type N'.the_plain 𝓛) w (u ∷ []) is $ done !
 
   -- where the loop stands: the window so far
   abbrev State : Type 0
-  State = (w : Window) × ((length w.prices ≡ 4 * reachBars) × ((w.count ≤ n) × (windowBars w ≡ take w.count (drop-first from₀ ys))))
+  State = (w : Window) × ((length w.prices ≡ 4 * reach_bars) × ((w.count ≤ n) × (window_bars w ≡ take w.count (drop-first from₀ ys))))
 
   abbrev Nearer : State → State → Type 0
   Nearer s' s = n - s'.0.count < n - s.0.count
@@ -202,10 +202,10 @@ module _ {M : Type 1} {𝓤 : Ura M} (𝓛 : Logic 𝓤) (mem : Memory → SProp
         rewrite ! 9 (λ (p : ℕ). ‵ (fat full_share ty_ptr l₁₁ 0 (vptr b p))) (sym (place_is 32 o j)) refl $
         move ! (33 ∷ []) $ fsplit ! $ move ! (1 ∷ []) $ fsplit ! $ move ! (1 ∷ 35 ∷ []) $
         looks_slice ! tt T.the_row (Is T.the_row) (shows 𝓛 T.the_row) (LL.vals T.the_type T'.the_laws) (LL.tells T.the_type T'.the_laws) ((LL.copy T.the_type T'.the_copy) 𝓛) ys b o (λ q'.
-        elem_out ! T.the_row (Is T.the_row) (shows 𝓛 T.the_row) (LL.vals T.the_type T'.the_laws) (LL.tells T.the_type T'.the_laws) q' ys j noBar b o l (λ g.
+        elem_out ! T.the_row (Is T.the_row) (shows 𝓛 T.the_row) (LL.vals T.the_type T'.the_laws) (LL.tells T.the_type T'.the_laws) q' ys j no_bar b o l (λ g.
         -- [bars[i]; what it owns; the others; what shuts; the fractured borrow; res; the slice's fact; the row; _15; …]
         assigns ! (of_opd ! (load ! (from ! (hop ! (look ! 16 refl) (stop !))) (look_raw ! 0 refl))) (from ! (stop !)) (init ! 14 refl ((LL.lawful T.the_type T'.the_laws 𝓛).typed h (bar-val h ∷ []) g).0) $
-        elem_back ! T.the_row q' ys j noBar (bar-val h ∷ []) b o l $ shuts_slice ! tt T.the_row q' ys b o $
+        elem_back ! T.the_row q' ys j no_bar (bar-val h ∷ []) b o l $ shuts_slice ! tt T.the_row q' ys b o $
         move ! (2 ∷ 1 ∷ []) $ fjoin ! $ move ! (2 ∷ 0 ∷ []) $ fjoin ! $ move ! (2 ∷ []) $
         -- [the row; what the slice owns; the token; _15; …]
         assigns ! (addr ! (from ! (stop !))) (from ! (stop !)) (init ! 7 refl (tt, tt)) $
@@ -219,8 +219,8 @@ module _ {M : Type 1} {𝓤 : Ura M} (𝓛 : Logic 𝓤) (mem : Memory → SProp
         -- [what the callee asks; the lender's part; what the slice owns; the token; _15; …]
         calls_at ! (fm_of 𝓤 H 𝓛.laws 𝓣) (Put 𝓛 mem run) known (to-put l₅ ν δ w h) (and_then ! (load ! (from ! (stop !)) (look ! 10 refl)) (and_then ! (load ! (from ! (stop !)) (look ! 6 refl)) (and_then ! (load ! (from ! (stop !)) (look ! 22 refl)) (no_more !)))) (λ v.
         use1 𝓛 (later (some (λ (r : Unit {0}). ((‵ (flft (ν ∷ []) full_share) ⊛ ‵ ftrue) ⊛ ‵ (unit.own_val r (v ∷ []))) ⊛ raw (ensured 𝓛 put.ended (put.clauses 𝓛 mem run) (ν ∷ [], tt) (asked l₅ δ w h) tt r)))) (id⊢ 𝓤 _) $ await ! tt $ pick ! (λ r.
-        split ! $ move ! (1 ∷ []) $ use1 𝓛 (some (λ (zs : Unit {0} × (List Float × (Unit {0} × Unit {0}))). ‵ (lasts put.ended (ν ∷ [], tt) (asked l₅ δ w h) zs) ⊛ raw (fact 𝓤 (zs.1.0 ≡ (withBar w h).prices)))) (id⊢ 𝓤 _) $ pick ! (λ zs.
-        split ! $ move ! (1 ∷ []) $ heard ! (zs.1.0 ≡ (withBar w h).prices) (λ e. fsplit ! $ drop ! $ fsplit ! $ fsplit ! $ move ! (1 ∷ []) $ feq_l ! (λ same_size.
+        split ! $ move ! (1 ∷ []) $ use1 𝓛 (some (λ (zs : Unit {0} × (List Float × (Unit {0} × Unit {0}))). ‵ (lasts put.ended (ν ∷ [], tt) (asked l₅ δ w h) zs) ⊛ raw (fact 𝓤 (zs.1.0 ≡ (with_bar w h).prices)))) (id⊢ 𝓤 _) $ pick ! (λ zs.
+        split ! $ move ! (1 ∷ []) $ heard ! (zs.1.0 ≡ (with_bar w h).prices) (λ e. fsplit ! $ drop ! $ fsplit ! $ fsplit ! $ move ! (1 ∷ []) $ feq_l ! (λ same_size.
         -- [its last prices; …; the token of the call and the result; the lender's part; what the slice owns; the token; _15; …]
         move ! (2 ∷ []) $ split ! $ move ! (1 ∷ []) $ peeks ! unit (Is unit) (shows 𝓛 unit) r (v ∷ []) (λ is.
         land ! (from ! (stop !)) (init ! 21 refl ((Nothing-Lawful 𝓛).typed r _ is).0) $ drop ! $
@@ -233,19 +233,19 @@ module _ {M : Type 1} {𝓤 : Ura M} (𝓛 : Logic 𝓤) (mem : Memory → SProp
         assigns_last ! (bin ! (load ! (from ! (stop !)) (look ! 21 refl)) (lit ! tt) (record { fits = omega (arith, below) })) (from ! (stop !)) (store ! 21 refl (tt, record { fits = omega (arith, below) })) $
         forget ! 5 refl $ forget ! 7 refl $ forget ! 9 refl $ forget ! 11 refl $ forget ! 13 refl $ forget ! 15 refl $ forget ! 17 refl $ forget ! 19 refl $
         keep ! (0 ∷ 3 ∷ 4 ∷ 5 ∷ 6 ∷ 7 ∷ 8 ∷ 9 ∷ 10 ∷ 11 ∷ 12 ∷ 13 ∷ 14 ∷ 15 ∷ 16 ∷ 17 ∷ 18 ∷ 19 ∷ 20 ∷ 21 ∷ 22 ∷ 23 ∷ 24 ∷ 25 ∷ 26 ∷ 27 ∷ 28 ∷ 29 ∷ 30 ∷ 31 ∷ 32 ∷ 33 ∷ 2 ∷ 1 ∷ []) $
-        again ! Nearer At s (withBar w h, (ap length (sym e) ∙ same_size ∙ size, (omega (arith, below), next-bar ys from₀ w l (omega (arith, full, size)) s.1.1.1))) (omega (arith, below))))))))))))
+        again ! Nearer At s (with_bar w h, (ap length (sym e) ∙ same_size ∙ size, (omega (arith, below), next-bar ys from₀ w l (omega (arith, full, size)) s.1.1.1))) (omega (arith, below))))))))))))
       where
         w : Window
         w = s.0
 
-        size : length w.prices ≡ 4 * reachBars
+        size : length w.prices ≡ 4 * reach_bars
         size = s.1.0
 
         j : ℕ
         j = from₀ + w.count
 
         h : Bar
-        h = get_or ys j noBar
+        h = get_or ys j no_bar
 
         below : w.count < n
         below = ltb-true w.count n less
@@ -253,7 +253,7 @@ module _ {M : Type 1} {𝓤 : Ura M} (𝓛 : Logic 𝓤) (mem : Memory → SProp
         l : j < length ys
         l = omega (arith, below)
 
-        full : w.count < reachBars
+        full : w.count < reach_bars
         full = omega (arith, below)
 
         fits : w.count < 2 ^ 64
@@ -275,10 +275,10 @@ module _ {M : Type 1} {𝓤 : Ura M} (𝓛 : Logic 𝓤) (mem : Memory → SProp
         assigns ! (bin ! (load ! (from ! (stop !)) (look ! 19 refl)) (load ! (from ! (stop !)) (look ! 24 refl)) tt) (from ! (stop !)) (init ! 17 refl (tt, tt)) $
         rewrite ! 17 (λ (t : Bool). ‵ (fat full_share ty_bool l₇ 0 (vbool t))) no_less refl $ leaves_loop ! (load ! (from ! (stop !)) (look ! 17 refl)) $ exec ! C Λ En body.t-4 (at_ret En Post) $
         -- the array is whole again
-        rewrite ! 0 (λ (xs : List Float). ‵ (row f64 full_share xs l₅ 0)) (sym (same w.prices)) refl $ feq_i ! ℕ (length ps) (4 * reachBars) size $ fjoin ! $ use1 𝓛 (‵ (part_at Prices full_share ps l₅ 0)) (Array-whole 𝓛 f64 full_share (4 * reachBars) ps l₅ 0) $ fpick ! (λ vs. fsplit ! $ move ! (1 ∷ []) $
+        rewrite ! 0 (λ (xs : List Float). ‵ (row f64 full_share xs l₅ 0)) (sym (same w.prices)) refl $ feq_i ! ℕ (length ps) (4 * reach_bars) size $ fjoin ! $ use1 𝓛 (‵ (part_at Prices full_share ps l₅ 0)) (Array-whole 𝓛 f64 full_share (4 * reach_bars) ps l₅ 0) $ fpick ! (λ vs. fsplit ! $ move ! (1 ∷ []) $
         peeks ! Prices (Is Prices) (shows 𝓛 Prices) ps vs (λ is. drop ! $
-        rewrite ! 0 (λ (us : List Val). ‵ (cell_raw full_share (raw_all Prices.mir) us l₅ 0)) (Array-Tells f64 (float_vals binary64) (float_Tells binary64) (4 * reachBars) ps vs is) refl $
-        assigns ! (of_opd ! (load ! (from ! (stop !)) (look ! 0 refl))) (from ! (stop !)) (init ! 1 refl ((Array-Lawful 𝓛 f64 (float_Lawful 𝓛 binary64) (4 * reachBars)).typed ps _ (is-prices ps vs is)).0) $
+        rewrite ! 0 (λ (us : List Val). ‵ (cell_raw full_share (raw_all Prices.mir) us l₅ 0)) (Array-Tells f64 (float_vals binary64) (float_Tells binary64) (4 * reach_bars) ps vs is) refl $
+        assigns ! (of_opd ! (load ! (from ! (stop !)) (look ! 0 refl))) (from ! (stop !)) (init ! 1 refl ((Array-Lawful 𝓛 f64 (float_Lawful 𝓛 binary64) (4 * reach_bars)).typed ps _ (is-prices ps vs is)).0) $
         assigns ! (agg ! (and_then ! (load ! (from ! (stop !)) (look ! 1 refl)) (and_then ! (load ! (from ! (stop !)) (look ! 19 refl)) (no_more !)))) (from ! (stop !)) (init ! 30 refl ((LL.lawful N.the_type N'.the_laws 𝓛).typed w _ (made vs is)).0) $
         returns ! (look ! 30 refl) $ forget ! 0 refl $ forget ! 1 refl $ forget ! 17 refl $ forget ! 19 refl $ forget ! 22 refl $ forget ! 24 refl $ forget ! 26 refl $ forget ! 28 refl $ forget ! 30 refl $
         move ! (30 ∷ 31 ∷ []) $ free1 ! $ move ! (28 ∷ 29 ∷ []) $ free1 ! $ move ! (26 ∷ 27 ∷ []) $ free1 ! $ move ! (24 ∷ 25 ∷ []) $ free1 ! $ move ! (22 ∷ 23 ∷ []) $ free1 ! $
@@ -292,7 +292,7 @@ module _ {M : Type 1} {𝓤 : Ura M} (𝓛 : Logic 𝓤) (mem : Memory → SProp
         ps : List Float
         ps = map (λ (x : Float). x) w.prices
 
-        size : length ps ≡ 4 * reachBars
+        size : length ps ≡ 4 * reach_bars
         size = ap length (same w.prices) ∙ s.1.0
 
         whole-count : w.count ≡ n
@@ -309,7 +309,7 @@ module _ {M : Type 1} {𝓤 : Ura M} (𝓛 : Logic 𝓤) (mem : Memory → SProp
     turn_at s false e = over s e
 
     -- the body, from the loop on
-    looped : (size : length ps₀ ≡ 4 * reachBars) → Sq 𝓛 (At (record { prices = ps₀; count = 0 }, (size, (zero-le, no-bars ps₀)))) (runs C Λ En body.t-3 (at_ret En Post))
+    looped : (size : length ps₀ ≡ 4 * reach_bars) → Sq 𝓛 (At (record { prices = ps₀; count = 0 }, (size, (zero-le, no-bars ps₀)))) (runs C Λ En body.t-3 (at_ret En Post))
     looped size = first ! $ blocks ! $ loops ! 𝓣 Nearer Nearer-wf At (λ s. turn_at s (ltb s.0.count n) refl) (record { prices = ps₀; count = 0 }, (size, (zero-le, no-bars ps₀)))
 
   walk : (𝓣 : Tables 𝓤 H) → Triple 𝓤 (𝓣.C put-def.name) (Put 𝓛 mem run) → ent 𝓤 (on_entry 𝓛 f.signature (κ, tt) (q, tt) x at)
@@ -321,13 +321,13 @@ module _ {M : Type 1} {𝓤 : Ura M} (𝓛 : Logic 𝓤) (mem : Memory → SProp
       alloc1 ! (λ l₀. alloc1 ! (λ l₁. alloc1 ! (λ l₂. alloc1 ! (λ l₃. alloc1 ! (λ l₄. alloc1 ! (λ l₅. alloc1 ! (λ l₆. alloc1 ! (λ l₇.
       alloc1 ! (λ l₈. alloc1 ! (λ l₉. alloc1 ! (λ l₁₀. alloc1 ! (λ l₁₁. alloc1 ! (λ l₁₂. alloc1 ! (λ l₁₃. alloc1 ! (λ l₁₄. alloc1 ! (λ l₁₅. alloc0 ! $ params1 ! $
       pass1 ! (init ! 28 refl (tt, (tt, (record { fits = gn.0 }, tt)))) $ pass1 ! (init ! 26 refl (tt, record { fits = gf })) $ pass1 ! (init ! 24 refl (tt, record { fits = ge })) $
-      pass1 ! (init ! 22 refl ((Array-Lawful 𝓛 f64 (float_Lawful 𝓛 binary64) (4 * reachBars)).typed ps₀ (prices-val ps₀) is₀).0) $ pass0 ! $
+      pass1 ! (init ! 22 refl ((Array-Lawful 𝓛 f64 (float_Lawful 𝓛 binary64) (4 * reach_bars)).typed ps₀ (prices-val ps₀) is₀).0) $ pass0 ! $
       -- [_15; …; .. _0; …; the token; what the parameters own]
-      assigns ! (of_opd ! (load ! (from ! (stop !)) (look ! 22 refl))) (from ! (stop !)) (init ! 20 refl ((Array-Lawful 𝓛 f64 (float_Lawful 𝓛 binary64) (4 * reachBars)).typed ps₀ (prices-val ps₀) is₀).0) $ assigns ! (of_opd ! (lit ! tt)) (from ! (stop !)) (init ! 18 refl (tt, record { fits = lit< tt })) $
+      assigns ! (of_opd ! (load ! (from ! (stop !)) (look ! 22 refl))) (from ! (stop !)) (init ! 20 refl ((Array-Lawful 𝓛 f64 (float_Lawful 𝓛 binary64) (4 * reach_bars)).typed ps₀ (prices-val ps₀) is₀).0) $ assigns ! (of_opd ! (lit ! tt)) (from ! (stop !)) (init ! 18 refl (tt, record { fits = lit< tt })) $
       -- the array is apart
-      move ! (20 ∷ []) $ owned ! Prices (Is Prices) (Array-Makes 𝓛 f64 (float_Makes 𝓛 binary64) (4 * reachBars)) ps₀ (prices-val ps₀) is₀ $ move ! (1 ∷ 0 ∷ []) $ fjoin ! $
+      move ! (20 ∷ []) $ owned ! Prices (Is Prices) (Array-Makes 𝓛 f64 (float_Makes 𝓛 binary64) (4 * reach_bars)) ps₀ (prices-val ps₀) is₀ $ move ! (1 ∷ 0 ∷ []) $ fjoin ! $
       fpack ! (List Val) (λ us. fsep (cell_raw full_share (raw_all Prices.mir) us l₅ 0) (Prices.own_val ps₀ us)) (prices-val ps₀) $
-      use1 𝓛 (‵ ((arr_parts (shares f64) (4 * reachBars)).part full_share ps₀ l₅ 0)) (Array-apart 𝓛 f64 full_share tt (4 * reachBars) ps₀ l₅ 0) $ fsplit ! $ feq_l ! (λ size.
+      use1 𝓛 (‵ ((arr_parts (shares f64) (4 * reach_bars)).part full_share ps₀ l₅ 0)) (Array-apart 𝓛 f64 full_share tt (4 * reach_bars) ps₀ l₅ 0) $ fsplit ! $ feq_l ! (λ size.
       -- [the row; _15; …; .. but for what lies in _5; .. _0; …; the token; what the parameters own]
       move ! (33 ∷ []) $ fsplit ! $ move ! (34 ∷ []) $ split ! $
       keep ! (4 ∷ 5 ∷ 6 ∷ 7 ∷ 8 ∷ 9 ∷ 10 ∷ 11 ∷ 12 ∷ 13 ∷ 14 ∷ 15 ∷ 16 ∷ 17 ∷ 18 ∷ 19 ∷ 20 ∷ 21 ∷ 22 ∷ 23 ∷ 24 ∷ 25 ∷ 26 ∷ 27 ∷ 28 ∷ 29 ∷ 30 ∷ 31 ∷ 32 ∷ 33 ∷ 34 ∷ 35 ∷ 0 ∷ 2 ∷ []) $
@@ -339,7 +339,7 @@ module _ {M : Type 1} {𝓤 : Ura M} (𝓛 : Logic 𝓤) (mem : Memory → SProp
 
   gathered-walks : Walks 𝓛 f.ended stayed (WpFn 𝓤 H 𝓣.C 𝓣.Λ code.function) (f.clauses 𝓛 mem run)
   gathered-walks = walked 𝓛 f.ended stayed (f.clauses 𝓛 mem run) (WpFn 𝓤 H 𝓣.C 𝓣.Λ code.function)
-      (λ κs. (shr_slice_vals, (uint_vals w64, (uint_vals w64, (prices-val, tt))))) (λ κs. (shr_slice_Tells (named 0) κs.0 T.the_row, (uint_Tells w64, (uint_Tells w64, (Array-Tells f64 (float_vals binary64) (float_Tells binary64) (4 * reachBars), tt)))))
+      (λ κs. (shr_slice_vals, (uint_vals w64, (uint_vals w64, (prices-val, tt))))) (λ κs. (shr_slice_Tells (named 0) κs.0 T.the_row, (uint_Tells w64, (uint_Tells w64, (Array-Tells f64 (float_vals binary64) (float_Tells binary64) (4 * reach_bars), tt)))))
       (λ κs qs bounds a g are. needs 𝓤 _ _ (λ asked.
       walk 𝓛 mem run κs.0 qs.0 a.0.ref_ptr.0 a.0.ref_ptr.1 a.0.ghost_name a.0.now a.1.0 a.1.1.0 a.1.1.1.0 are.0.0.1 are.1.0.1 are.1.1.0.1 are.1.1.1.0 asked.0 asked.1 𝓣 known))
 

@@ -39,9 +39,9 @@ use denote.Triple.Table.{entered, cited}
 use denote.Triple.Walked.{says, Stay, Stays, stay_none_slice, stay_none, walk_of, Goes-none_slice, Goes-none, Goes, Walks, ends_at, walked, walk_Meets}
 use denote.Exit.{yes}
 use Rattle.measures.specs.Bar.{Bar}
-use Rattle.recognisers.specs.Threshold.{Thresholds, thresholdsOf}
+use Rattle.recognisers.specs.Threshold.{Thresholds, thresholds_of}
 use Rattle.answers.specs.declared.Answer.{Answer}
-use Rattle.recognisers.specs.Call.{plainAnswer}
+use Rattle.recognisers.specs.Call.{plain_answer}
 use Rattle.recognisers.proofs.AnswerLaws.{Answers}
 use Rattle.recognisers.specs.Export.{result_of}
 use Rattle.records.proofs.Walk.{own, own-u32, own-f64, past}
@@ -136,7 +136,7 @@ module _ {M : Type 1} {𝓤 : Ura M} (𝓛 : Logic 𝓤) (mem : Memory → SProp
   Own = (ShrSlice (named 0) κ T.the_row).own_val p (v₁₆ ∷ [])
 
   abbrev made : Thresholds
-  made = thresholdsOf th0 z2 th2 z3 th3 zdf5 th6 zdf7 th8 zf8 th10 th13 th14
+  made = thresholds_of th0 z2 th2 z3 th3 zdf5 th6 zdf7 th8 zf8 th10 th13 th14
 
   abbrev given : Args new.signature tt
   given = (th0, (z2, (th2, (z3, (th3, (zdf5, (th6, (zdf7, (th8, (zf8, (th10, (th13, (th14, tt)))))))))))))
@@ -163,7 +163,7 @@ module _ {M : Type 1} {𝓤 : Ura M} (𝓛 : Logic 𝓤) (mem : Memory → SProp
   recognised : (t : Thresholds) (a : Answer) → ent 𝓤 (ensured 𝓛 recognise.ended (recognise.clauses 𝓛 mem run) (κ, tt) (k, (di, (t, (p, tt)))) tt a) (fact 𝓤 (Answers k di t true p.now a))
   recognised t a = ex_e 𝓤 _ (λ ws. snd∗ 𝓤 (sem 𝓛 (lasts recognise.ended (κ, tt) (k, (di, (t, (p, tt)))) ws)) (fact 𝓤 (Answers k di t true p.now a)))
 
-  exits : (r : ℕ) (u : Val) → r ≡ result_of (plainAnswer k di made true p.now) → ent 𝓤 (⋆ 𝓛 (‵ (u32.own_val r (u ∷ [])) ∷ (‵ (flft κ q) ⊛ ‵ ftrue) ∷ ‵ Own ∷ [])) (Post u)
+  exits : (r : ℕ) (u : Val) → r ≡ result_of (plain_answer k di made true p.now) → ent 𝓤 (⋆ 𝓛 (‵ (u32.own_val r (u ∷ [])) ∷ (‵ (flft κ q) ⊛ ‵ ftrue) ∷ ‵ Own ∷ [])) (Post u)
   exits r u e =
       qed 𝓛 (‵ (u32.own_val r (u ∷ [])) ∷ (‵ (flft κ q) ⊛ ‵ ftrue) ∷ ‵ Own ∷ []) ∵
       suffices ! _ (ends_at 𝓛 f.ended stayed (f.clauses 𝓛 mem run) (((κ, tt), (q, tt), tt, x, at), tt) u r
@@ -217,7 +217,7 @@ module _ {M : Type 1} {𝓤 : Ura M} (𝓛 : Logic 𝓤) (mem : Memory → SProp
         move ! (30 ∷ 31 ∷ []) $ free1 ! $ move ! (28 ∷ 29 ∷ []) $ free1 ! $ move ! (26 ∷ 27 ∷ []) $ free1 ! $ move ! (24 ∷ 25 ∷ []) $ free1 ! $ move ! (22 ∷ 23 ∷ []) $ free1 ! $
         move ! (20 ∷ 21 ∷ []) $ free1 ! $ move ! (18 ∷ 19 ∷ []) $ free1 ! $ move ! (16 ∷ 17 ∷ []) $ free1 ! $ move ! (14 ∷ 15 ∷ []) $ free1 ! $ move ! (12 ∷ 13 ∷ []) $ free1 ! $
         move ! (10 ∷ 11 ∷ []) $ free1 ! $ move ! (8 ∷ 9 ∷ []) $ free1 ! $ move ! (6 ∷ 7 ∷ []) $ free1 ! $ move ! (4 ∷ 5 ∷ []) $ free1 ! $ free0 ! $
-        keep ! (0 ∷ 1 ∷ 2 ∷ []) $ by ! (exits r v' (e₃ ∙ ap result_of (e₂.0 ∙ ap (λ (t' : Thresholds). plainAnswer k di t' true p.now) e₁))))))))))))))))))))))))))))))))))
+        keep ! (0 ∷ 1 ∷ 2 ∷ []) $ by ! (exits r v' (e₃ ∙ ap result_of (e₂.0 ∙ ap (λ (t' : Thresholds). plain_answer k di t' true p.now) e₁))))))))))))))))))))))))))))))))))
 
 module _ {M : Type 1} {𝓤 : Ura M} (𝓛 : Logic 𝓤) (mem : Memory → SProp 𝓤) (run : Routine → Fun 𝓤) (𝓣 : Tables 𝓤 𝓛.H)
     (known₁ : Triple 𝓤 (𝓣.C new-def.name) (New 𝓛 mem run)) (known₂ : Triple 𝓤 (𝓣.C recognise-def.name) (Recognise 𝓛 mem run)) (known₃ : Triple 𝓤 (𝓣.C number-def.name) (Number 𝓛 mem run)) where

@@ -41,15 +41,15 @@ use denote.Triple.Table.{entered, cited}
 use denote.Triple.Walked.{says, Stays, stay_none_slice, stay_none, walk_of, Goes-none_slice, Goes-none, Walks, ends_at, walked, walk_Meets}
 use denote.Exit.{yes}
 use Rattle.measures.specs.Bar.{Bar}
-use Rattle.measures.specs.Window.{up_to, windowOf}
+use Rattle.measures.specs.Window.{up_to, window_of}
 use Rattle.recognisers.specs.Threshold.{Thresholds}
 use Rattle.answers.specs.declared.Answer.{Answer, TheVariants.Labels}
-use Rattle.recognisers.specs.Number.{gated, reachBars, quarterBars, gateEnd}
-use Rattle.recognisers.specs.Table.{judgeOf}
-use Rattle.recognisers.specs.Refusal.{answerTo, plainVerdict}
+use Rattle.recognisers.specs.Number.{gated, reach_bars, quarter_bars, gate_end}
+use Rattle.recognisers.specs.Table.{judge_of}
+use Rattle.recognisers.specs.Refusal.{answer_to, plain_verdict}
 use Rattle.recognisers.proofs.AnswerLaws.{Answers, plain-values}
 use Rattle.records.specs.declared.Window.{Window}
-use Rattle.records.specs.HeldSteps.{windowBars}
+use Rattle.records.specs.HeldSteps.{window_bars}
 use Rattle.records.proofs.HeldLaws.{answer-held}
 use Rattle.records.proofs.Walk.{own, own-u32, own-usize}
 use Rattle.prices.specs.contracts.bars.Bar as T
@@ -78,13 +78,13 @@ stayed = (stay_none (λ _. u32) yes, (stay_none (λ _. u32) yes, (stay_none (λ 
 
 -- what the callees ensure
 abbrev Held : List Bar → ℕ → ℕ → Window → Type 0
-Held bars di n r = (r.count ≤ reachBars) × (windowBars r ≡ windowOf bars di n)
+Held bars di n r = (r.count ≤ reach_bars) × (window_bars r ≡ window_of bars di n)
 
 abbrev Gated : ℕ → ℕ → Type 0
-Gated k n = (n ≡ cond (eqb k gated) quarterBars 0) × (n ≤ quarterBars)
+Gated k n = (n ≡ cond (eqb k gated) quarter_bars 0) × (n ≤ quarter_bars)
 
-abbrev heldAnswer : ℕ → ℕ → Thresholds → ℕ → Window → Window → Answer
-heldAnswer k di t len w gate = answerTo (plainVerdict k di t true len) (Labels (judgeOf k t len (up_to len di) (windowBars w) (windowBars gate)))
+abbrev held_answer : ℕ → ℕ → Thresholds → ℕ → Window → Window → Answer
+held_answer k di t len w gate = answer_to (plain_verdict k di t true len) (Labels (judge_of k t len (up_to len di) (window_bars w) (window_bars gate)))
 
 module _ {M : Type 1} {𝓤 : Ura M} (𝓛 : Logic 𝓤) (mem : Memory → SProp 𝓤) (run : Routine → Fun 𝓤) where
   -- the contracts that the proof cites
@@ -122,7 +122,7 @@ module _ {M : Type 1} {𝓤 : Ura M} (𝓛 : Logic 𝓤) (mem : Memory → SProp
   abbrev to-window : ℕ → ℕ → Val → (WindowOf 𝓛 mem run).Ghost
   to-window d n vn = (((κ, tt), (q, tt), tt, (p, (d, (n, tt))), (v₄ ∷ [], (vint w64 d ∷ [], (vn ∷ [], tt)))), tt)
 
-  goes-window : (d n : ℕ) (vn : Val) → d < 2 ^ 64 → Is usize n (vn ∷ []) → n ≤ reachBars → ent 𝓤 (sep 𝓤 (sem 𝓛 Own) (sep 𝓤 (A.lft κ q) (sem 𝓛 ftrue))) ((WindowOf 𝓛 mem run).pre (to-window d n vn))
+  goes-window : (d n : ℕ) (vn : Val) → d < 2 ^ 64 → Is usize n (vn ∷ []) → n ≤ reach_bars → ent 𝓤 (sep 𝓤 (sem 𝓛 Own) (sep 𝓤 (A.lft κ q) (sem 𝓛 ftrue))) ((WindowOf 𝓛 mem run).pre (to-window d n vn))
   goes-window d n vn gd' isn few =
       qed 𝓛 (‵ Own ∷ (‵ (flft κ q) ⊛ ‵ ftrue) ∷ []) ∵ says ! few $ nothing ! $ own 𝓛 usize (uint_Makes 𝓛 w64) n (vn ∷ []) isn $
       own-usize 𝓛 d gd' $ move ! (1 ∷ 0 ∷ []) $ fjoin ! $ move ! (1 ∷ 0 ∷ []) $ frame ! $ done !
@@ -146,7 +146,7 @@ module _ {M : Type 1} {𝓤 : Ura M} (𝓛 : Logic 𝓤) (mem : Memory → SProp
   abbrev to-answer : Window → Val → Window → Val → (AnswerOf 𝓛 mem run).Ghost
   to-answer w u gate u' = ((tt, tt, tt, asked w gate, (vint w32 k ∷ [], (vint w32 di ∷ [], (ut ∷ [], (vint w64 len ∷ [], (u ∷ [], (u' ∷ [], tt))))))), tt)
 
-  goes-answer : (w : Window) (u : Val) (gate : Window) (u' : Val) → Is N.the_row w (u ∷ []) → Is N.the_row gate (u' ∷ []) → (w.count ≤ reachBars) × (gate.count ≤ reachBars)
+  goes-answer : (w : Window) (u : Val) (gate : Window) (u' : Val) → Is N.the_row w (u ∷ []) → Is N.the_row gate (u' ∷ []) → (w.count ≤ reach_bars) × (gate.count ≤ reach_bars)
       → ent 𝓤 (emp 𝓤) ((AnswerOf 𝓛 mem run).pre (to-answer w u gate u'))
   goes-answer w u gate u' is is' few =
       qed 𝓛 [] ∵ says ! few $ nothing ! $ own 𝓛 N.the_row (LL.makes N.the_type N'.the_plain 𝓛) gate (u' ∷ []) is' $
@@ -156,8 +156,8 @@ module _ {M : Type 1} {𝓤 : Ura M} (𝓛 : Logic 𝓤) (mem : Memory → SProp
       own-u32 𝓛 di gd $
       own-u32 𝓛 k gk $ nothing ! $ frame ! $ done !
 
-  answered : (w gate : Window) (r : Answer) → ent 𝓤 (ensured 𝓛 answer.ended (answer.clauses 𝓛 mem run) tt (asked w gate) tt r) (fact 𝓤 (r ≡ heldAnswer k di t len w gate))
-  answered w gate r = ex_e 𝓤 _ (λ ws. snd∗ 𝓤 (sem 𝓛 (lasts answer.ended tt (asked w gate) ws)) (fact 𝓤 (r ≡ heldAnswer k di t len w gate)))
+  answered : (w gate : Window) (r : Answer) → ent 𝓤 (ensured 𝓛 answer.ended (answer.clauses 𝓛 mem run) tt (asked w gate) tt r) (fact 𝓤 (r ≡ held_answer k di t len w gate))
+  answered w gate r = ex_e 𝓤 _ (λ ws. snd∗ 𝓤 (sem 𝓛 (lasts answer.ended tt (asked w gate) ws)) (fact 𝓤 (r ≡ held_answer k di t len w gate)))
 
   exits : (r : Answer) (u : Val) → Answers k di t true p.now r → ent 𝓤 (⋆ 𝓛 (‵ ((R.the_row).own_val r (u ∷ [])) ∷ (‵ (flft κ q) ⊛ ‵ ftrue) ∷ ‵ Own ∷ [])) (Post u)
   exits r u e =
@@ -179,11 +179,11 @@ module _ {M : Type 1} {𝓤 : Ura M} (𝓛 : Logic 𝓤) (mem : Memory → SProp
         -- [_7; …; .. _0; …; the token; what the parameters own]
         move ! (17 ∷ []) $ fsplit ! $ move ! (1 ∷ []) $ fsplit ! $ move ! (1 ∷ []) $ fsplit ! $ move ! (1 ∷ []) $ fsplit ! $
         use1 𝓛 (‵ Own ⊛ ‵ Own) ((shr_slice_copy 𝓛 (named 0) κ T.the_row).twice p (v₄ ∷ [])) $ split ! $ move ! (0 ∷ 22 ∷ []) $
-        use2 𝓛 (raw ((WindowOf 𝓛 mem run).pre (to-window di reachBars (vint w64 reachBars)))) (goes-window di reachBars (vint w64 reachBars) wide (refl, omega arith) (omega arith)) $
+        use2 𝓛 (raw ((WindowOf 𝓛 mem run).pre (to-window di reach_bars (vint w64 reach_bars)))) (goes-window di reach_bars (vint w64 reach_bars) wide (refl, omega arith) (omega arith)) $
         -- [what the callee asks; what the slice owns; four more; _7; …; .. _0; …]
-        calls_at ! fm (WindowOf 𝓛 mem run) known₁ (to-window di reachBars (vint w64 reachBars)) (and_then ! (load ! (from ! (stop !)) (look ! 12 refl)) (and_then ! (load ! (from ! (stop !)) (look ! 6 refl)) (and_then ! (lit ! tt) (no_more !)))) (λ u.
-        use1 𝓛 (later (some (λ (r : Window). ((‵ (flft κ q) ⊛ ‵ ftrue) ⊛ ‵ ((N.the_row).own_val r (u ∷ []))) ⊛ raw (ensured 𝓛 window.ended (window.clauses 𝓛 mem run) (κ, tt) (p, (di, (reachBars, tt))) tt r)))) (id⊢ 𝓤 _) $ await ! tt $ pick ! (λ w.
-        split ! $ move ! (1 ∷ []) $ use1 𝓛 (raw (fact 𝓤 (Held p.now di reachBars w))) (held di reachBars w) $ heard ! (Held p.now di reachBars w) (λ e₁. split ! $ move ! (1 ∷ []) $
+        calls_at ! fm (WindowOf 𝓛 mem run) known₁ (to-window di reach_bars (vint w64 reach_bars)) (and_then ! (load ! (from ! (stop !)) (look ! 12 refl)) (and_then ! (load ! (from ! (stop !)) (look ! 6 refl)) (and_then ! (lit ! tt) (no_more !)))) (λ u.
+        use1 𝓛 (later (some (λ (r : Window). ((‵ (flft κ q) ⊛ ‵ ftrue) ⊛ ‵ ((N.the_row).own_val r (u ∷ []))) ⊛ raw (ensured 𝓛 window.ended (window.clauses 𝓛 mem run) (κ, tt) (p, (di, (reach_bars, tt))) tt r)))) (id⊢ 𝓤 _) $ await ! tt $ pick ! (λ w.
+        split ! $ move ! (1 ∷ []) $ use1 𝓛 (raw (fact 𝓤 (Held p.now di reach_bars w))) (held di reach_bars w) $ heard ! (Held p.now di reach_bars w) (λ e₁. split ! $ move ! (1 ∷ []) $
         peeks ! N.the_row (Is N.the_row) (shows 𝓛 N.the_row) w (u ∷ []) (λ is₁.
         land ! (from ! (stop !)) (init ! 11 refl ((LL.lawful N.the_type N'.the_laws 𝓛).typed w _ is₁).0) $ drop ! $
         use0 𝓛 (raw ((GateBars 𝓛 mem run).pre to-bars)) goes-bars $
@@ -195,10 +195,10 @@ module _ {M : Type 1} {𝓤 : Ura M} (𝓛 : Logic 𝓤) (mem : Memory → SProp
         land ! (from ! (stop !)) (store ! 7 refl ((uint_Lawful 𝓛 w64).typed n _ isn).0) $ drop ! $
         -- [the token; what the slice owns; four more; _7; …; .. _0; …]
         move ! (1 ∷ []) $ use1 𝓛 (‵ Own ⊛ ‵ Own) ((shr_slice_copy 𝓛 (named 0) κ T.the_row).twice p (v₄ ∷ [])) $ split ! $ move ! (0 ∷ 2 ∷ []) $
-        use2 𝓛 (raw ((WindowOf 𝓛 mem run).pre (to-window gateEnd n vn))) (goes-window gateEnd n vn (omega arith) isn (omega (arith, e₂.1))) $
-        calls_at ! fm (WindowOf 𝓛 mem run) known₁ (to-window gateEnd n vn) (and_then ! (load ! (from ! (stop !)) (look ! 12 refl)) (and_then ! (lit ! tt) (and_then ! (load ! (from ! (stop !)) (look ! 6 refl)) (no_more !)))) (λ u'.
-        use1 𝓛 (later (some (λ (r : Window). ((‵ (flft κ q) ⊛ ‵ ftrue) ⊛ ‵ ((N.the_row).own_val r (u' ∷ []))) ⊛ raw (ensured 𝓛 window.ended (window.clauses 𝓛 mem run) (κ, tt) (p, (gateEnd, (n, tt))) tt r)))) (id⊢ 𝓤 _) $ await ! tt $ pick ! (λ gate.
-        split ! $ move ! (1 ∷ []) $ use1 𝓛 (raw (fact 𝓤 (Held p.now gateEnd n gate))) (held gateEnd n gate) $ heard ! (Held p.now gateEnd n gate) (λ e₃. split ! $ move ! (1 ∷ []) $
+        use2 𝓛 (raw ((WindowOf 𝓛 mem run).pre (to-window gate_end n vn))) (goes-window gate_end n vn (omega arith) isn (omega (arith, e₂.1))) $
+        calls_at ! fm (WindowOf 𝓛 mem run) known₁ (to-window gate_end n vn) (and_then ! (load ! (from ! (stop !)) (look ! 12 refl)) (and_then ! (lit ! tt) (and_then ! (load ! (from ! (stop !)) (look ! 6 refl)) (no_more !)))) (λ u'.
+        use1 𝓛 (later (some (λ (r : Window). ((‵ (flft κ q) ⊛ ‵ ftrue) ⊛ ‵ ((N.the_row).own_val r (u' ∷ []))) ⊛ raw (ensured 𝓛 window.ended (window.clauses 𝓛 mem run) (κ, tt) (p, (gate_end, (n, tt))) tt r)))) (id⊢ 𝓤 _) $ await ! tt $ pick ! (λ gate.
+        split ! $ move ! (1 ∷ []) $ use1 𝓛 (raw (fact 𝓤 (Held p.now gate_end n gate))) (held gate_end n gate) $ heard ! (Held p.now gate_end n gate) (λ e₃. split ! $ move ! (1 ∷ []) $
         peeks ! N.the_row (Is N.the_row) (shows 𝓛 N.the_row) gate (u' ∷ []) (λ is₂.
         land ! (from ! (stop !)) (init ! 9 refl ((LL.lawful N.the_type N'.the_laws 𝓛).typed gate _ is₂).0) $ drop ! $
         assigns ! (of_opd ! (load ! (from ! (fld ! refl (stop !))) (look_in ! 12 (sub ! 1 refl (whole !))))) (from ! (stop !)) (store ! 6 refl (tt, record { fits = gl.0 })) $
@@ -207,7 +207,7 @@ module _ {M : Type 1} {𝓤 : Ura M} (𝓛 : Logic 𝓤) (mem : Memory → SProp
         calls_at ! fm (AnswerOf 𝓛 mem run) known₃ (to-answer w u gate u')
         (and_then ! (load ! (from ! (stop !)) (look ! 19 refl)) (and_then ! (load ! (from ! (stop !)) (look ! 17 refl)) (and_then ! (load ! (from ! (stop !)) (look ! 15 refl)) (and_then ! (load ! (from ! (stop !)) (look ! 7 refl)) (and_then ! (load ! (from ! (stop !)) (look ! 11 refl)) (and_then ! (load ! (from ! (stop !)) (look ! 9 refl)) (no_more !))))))) (λ v.
         use1 𝓛 (later (some (λ (r : Answer). (‵ ftrue ⊛ ‵ ((R.the_row).own_val r (v ∷ []))) ⊛ raw (ensured 𝓛 answer.ended (answer.clauses 𝓛 mem run) tt (asked w gate) tt r)))) (id⊢ 𝓤 _) $ await ! tt $ pick ! (λ r.
-        split ! $ move ! (1 ∷ []) $ use1 𝓛 (raw (fact 𝓤 (r ≡ heldAnswer k di t len w gate))) (answered w gate r) $ heard ! (r ≡ heldAnswer k di t len w gate) (λ e₄. split ! $ drop ! $
+        split ! $ move ! (1 ∷ []) $ use1 𝓛 (raw (fact 𝓤 (r ≡ held_answer k di t len w gate))) (answered w gate r) $ heard ! (r ≡ held_answer k di t len w gate) (λ e₄. split ! $ drop ! $
         peeks ! R.the_row (Is R.the_row) (shows 𝓛 R.the_row) r (v ∷ []) (λ is₃.
         -- [the answer; the token; what the slice owns; four more; _7; …; .. _0; …]
         land ! (from ! (stop !)) (init ! 21 refl ((EL.lawful R.the_type R'.the_laws 𝓛 tt).typed r _ is₃).0) $

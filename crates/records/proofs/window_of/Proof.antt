@@ -42,12 +42,12 @@ use denote.Triple.Table.{entered, cited}
 use denote.Triple.Walked.{says, needs, Stays, stay_none_slice, stay_none, walk_of, Goes-none_slice, Goes-none, Walks, ends_at, walked, walk_Meets}
 use denote.Exit.{yes}
 use Rattle.measures.specs.Bar.{Bar}
-use Rattle.measures.specs.Window.{up_to, windowOf}
-use Rattle.measures.proofs.WindowLaws.{upTo-le}
-use Rattle.recognisers.specs.Number.{reachBars}
+use Rattle.measures.specs.Window.{up_to, window_of}
+use Rattle.measures.proofs.WindowLaws.{up_to-le}
+use Rattle.recognisers.specs.Number.{reach_bars}
 use Rattle.records.specs.declared.Span.{Span}
 use Rattle.records.specs.declared.Window.{Window}
-use Rattle.records.specs.HeldSteps.{windowBars}
+use Rattle.records.specs.HeldSteps.{window_bars}
 use Rattle.records.proofs.HeldLaws.{window-gathered}
 use Rattle.records.proofs.Walk.{own, own-usize}
 use Rattle.prices.specs.contracts.bars.Bar as T
@@ -77,10 +77,10 @@ abbrev Spanned : ℕ → ℕ → ℕ → Span → Type 0
 Spanned len di n s = (s.from ≡ up_to len di - min n (up_to len di)) × (s.count ≡ min n (up_to len di))
 
 abbrev Taken : List Bar → Span → Window → Type 0
-Taken bars s r = (r.count ≡ s.count) × (windowBars r ≡ take s.count (drop-first s.from bars))
+Taken bars s r = (r.count ≡ s.count) × (window_bars r ≡ take s.count (drop-first s.from bars))
 
 abbrev Prices : RattleType
-Prices = Array f64 (4 * reachBars)
+Prices = Array f64 (4 * reach_bars)
 
 module _ {M : Type 1} {𝓤 : Ura M} (𝓛 : Logic 𝓤) (mem : Memory → SProp 𝓤) (run : Routine → Fun 𝓤) where
   -- the contracts that the proof cites
@@ -98,7 +98,7 @@ module _ {M : Type 1} {𝓤 : Ura M} (𝓛 : Logic 𝓤) (mem : Memory → SProp
   spanned len di n r = ex_e 𝓤 _ (λ ws. snd∗ 𝓤 (sem 𝓛 (lasts span.ended tt (len, (di, (n, tt))) ws)) (fact 𝓤 (Spanned len di n r)))
 
 module _ {M : Type 1} {𝓤 : Ura M} (𝓛 : Logic 𝓤) (mem : Memory → SProp 𝓤) (run : Routine → Fun 𝓤) (κ : Lft) (q : Share) (p : Bor (List Bar)) (di n : ℕ)
-    (gl : Room T.the_row (length p.now)) (gd : di < 2 ^ 64) (gn : n < 2 ^ 64) (few : n ≤ reachBars) where
+    (gl : Room T.the_row (length p.now)) (gd : di < 2 ^ 64) (gn : n < 2 ^ 64) (few : n ≤ reach_bars) where
   open 𝓛 use {H, A}
 
   abbrev len : ℕ
@@ -137,17 +137,17 @@ module _ {M : Type 1} {𝓤 : Ura M} (𝓛 : Logic 𝓤) (mem : Memory → SProp
   abbrev to-gathered : Span → List Float → Val → (Gathered 𝓛 mem run).Ghost
   to-gathered s ps u = (((κ, tt), (q, tt), tt, given s ps, (v₁ ∷ [], (vint w64 s.from ∷ [], (vint w64 s.count ∷ [], (u ∷ [], tt))))), tt)
 
-  goes-gathered : (s : Span) (ps : List Float) (u : Val) → s.from < 2 ^ 64 → s.count < 2 ^ 64 → Is Prices ps (u ∷ []) → (s.from + s.count ≤ len) × (s.count ≤ reachBars)
+  goes-gathered : (s : Span) (ps : List Float) (u : Val) → s.from < 2 ^ 64 → s.count < 2 ^ 64 → Is Prices ps (u ∷ []) → (s.from + s.count ≤ len) × (s.count ≤ reach_bars)
       → ent 𝓤 (sep 𝓤 (sem 𝓛 Own) (sep 𝓤 (A.lft κ q) (sem 𝓛 ftrue))) ((Gathered 𝓛 mem run).pre (to-gathered s ps u))
   goes-gathered s ps u ga ge is within =
-      qed 𝓛 (‵ Own ∷ (‵ (flft κ q) ⊛ ‵ ftrue) ∷ []) ∵ says ! within $ nothing ! $ own 𝓛 Prices (Array-Makes 𝓛 f64 (float_Makes 𝓛 binary64) (4 * reachBars)) ps (u ∷ []) is $
+      qed 𝓛 (‵ Own ∷ (‵ (flft κ q) ⊛ ‵ ftrue) ∷ []) ∵ says ! within $ nothing ! $ own 𝓛 Prices (Array-Makes 𝓛 f64 (float_Makes 𝓛 binary64) (4 * reach_bars)) ps (u ∷ []) is $
       own-usize 𝓛 s.count ge $
       own-usize 𝓛 s.from ga $ move ! (1 ∷ 0 ∷ []) $ fjoin ! $ move ! (1 ∷ 0 ∷ []) $ frame ! $ done !
 
   taken : (s : Span) (ps : List Float) (r : Window) → ent 𝓤 (ensured 𝓛 gathered.ended (gathered.clauses 𝓛 mem run) (κ, tt) (given s ps) tt r) (fact 𝓤 (Taken p.now s r))
   taken s ps r = ex_e 𝓤 _ (λ ws. snd∗ 𝓤 (sem 𝓛 (lasts gathered.ended (κ, tt) (given s ps) ws)) (fact 𝓤 (Taken p.now s r)))
 
-  exits : (r : Window) (u : Val) → (r.count ≤ reachBars) × (windowBars r ≡ windowOf p.now di n) → ent 𝓤 (⋆ 𝓛 (‵ ((N.the_row).own_val r (u ∷ [])) ∷ (‵ (flft κ q) ⊛ ‵ ftrue) ∷ ‵ Own ∷ [])) (Post u)
+  exits : (r : Window) (u : Val) → (r.count ≤ reach_bars) × (window_bars r ≡ window_of p.now di n) → ent 𝓤 (⋆ 𝓛 (‵ ((N.the_row).own_val r (u ∷ [])) ∷ (‵ (flft κ q) ⊛ ‵ ftrue) ∷ ‵ Own ∷ [])) (Post u)
   exits r u e =
       qed 𝓛 (‵ ((N.the_row).own_val r (u ∷ [])) ∷ (‵ (flft κ q) ⊛ ‵ ftrue) ∷ ‵ Own ∷ []) ∵
       suffices ! _ (ends_at 𝓛 f.ended stayed (f.clauses 𝓛 mem run) (((κ, tt), (q, tt), tt, (p, (di, (n, tt))), at), tt) u r (tt, (tt, (tt, tt))) (tt, (tt, (tt, tt)))) $ says ! e $
@@ -172,7 +172,7 @@ module _ {M : Type 1} {𝓤 : Ura M} (𝓛 : Logic 𝓤) (mem : Memory → SProp
         use1 𝓛 (later (some (λ (r : List Float). (‵ ftrue ⊛ ‵ (Prices.own_val r (u ∷ []))) ⊛ raw (ensured 𝓛 no-prices.ended (no-prices.clauses 𝓛 mem run) tt tt tt r)))) (id⊢ 𝓤 _) $ await ! tt $ pick ! (λ ps.
         split ! $ move ! (1 ∷ []) $ drop ! $ split ! $ drop ! $
         peeks ! Prices (Is Prices) (shows 𝓛 Prices) ps (u ∷ []) (λ is₂.
-        land ! (from ! (stop !)) (init ! 1 refl ((Array-Lawful 𝓛 f64 (float_Lawful 𝓛 binary64) (4 * reachBars)).typed ps _ is₂).0) $ drop ! $
+        land ! (from ! (stop !)) (init ! 1 refl ((Array-Lawful 𝓛 f64 (float_Lawful 𝓛 binary64) (4 * reach_bars)).typed ps _ is₂).0) $ drop ! $
         -- [_6; …; .. _0; …; the token; what the parameters own]
         move ! (15 ∷ []) $ fsplit ! $ use1 𝓛 (‵ Own ⊛ ‵ Own) ((shr_slice_copy 𝓛 (named 0) κ T.the_row).twice p (v₁ ∷ [])) $ split ! $ move ! (0 ∷ 17 ∷ []) $
         use2 𝓛 (raw ((Gathered 𝓛 mem run).pre (to-gathered s ps u))) (goes-gathered s ps u (from-fits s is₁) (count_fits s is₁) is₂ (within s e₁)) $
@@ -194,10 +194,10 @@ module _ {M : Type 1} {𝓤 : Ura M} (𝓛 : Logic 𝓤) (mem : Memory → SProp
         count_fits : (s : Span) {v : Val} → Is S.the_row s (v ∷ []) → s.count < 2 ^ 64
         count_fits s is = is.1.1.1.0.1
 
-        within : (s : Span) → Spanned len di n s → (s.from + s.count ≤ len) × (s.count ≤ reachBars)
-        within s e = (omega (arith, e.0, e.1, upTo-le len di), omega (arith, few, e.1))
+        within : (s : Span) → Spanned len di n s → (s.from + s.count ≤ len) × (s.count ≤ reach_bars)
+        within s e = (omega (arith, e.0, e.1, up_to-le len di), omega (arith, few, e.1))
 
-        held : (r : Window) (s : Span) → Spanned len di n s → Taken p.now s r → (r.count ≤ reachBars) × (windowBars r ≡ windowOf p.now di n)
+        held : (r : Window) (s : Span) → Spanned len di n s → Taken p.now s r → (r.count ≤ reach_bars) × (window_bars r ≡ window_of p.now di n)
         held r s e got = let is = window-gathered r s p.now di n e got in (omega (arith, few, is.0), is.1)
 
 module _ {M : Type 1} {𝓤 : Ura M} (𝓛 : Logic 𝓤) (mem : Memory → SProp 𝓤) (run : Routine → Fun 𝓤) (𝓣 : Tables 𝓤 𝓛.H)

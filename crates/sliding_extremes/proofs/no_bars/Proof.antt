@@ -1,10 +1,10 @@
 -- The folds of no price are their starts. Assumes nothing.
-use Rattle.measures.specs.Fold.{columnOf, highestOf, lowestOf, extremesOf}
+use Rattle.measures.specs.Fold.{column_of, highest_of, lowest_of, extremes_of}
 use Rattle.sliding_extremes.proofs.no_bars.Statement.{statement}
 use Rattle.sliding_extremes.proofs.no_bars.Tie as tie
 
 returns : tie.Need-returns
-unfolding extremesOf highestOf lowestOf columnOf
+unfolding extremes_of highest_of lowest_of column_of
 returns c = rw (c.plus-infinity.ensures, c.before.minus-infinity.ensures)
 
 pub no-bars-spec : {M : Type 1} → statement M

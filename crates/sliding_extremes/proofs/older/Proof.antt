@@ -4,49 +4,49 @@ use mathlib.Core.Path.{◌≡◌, sym, ap, ◌∙◌}
 use native.Mathlib.Omega.{arith}
 use borrow.Author.Rules.{rules}
 use lib.ListN.{length, take, length-set}
-use Rattle.measures.specs.Bar.{barsOf}
-use Rattle.measures.specs.Fold.{extremesOf}
+use Rattle.measures.specs.Bar.{bars_of}
+use Rattle.measures.specs.Fold.{extremes_of}
 use Rattle.measures.specs.Window.{newest}
 use Rattle.measures.specs.declared.folds.Extremes.{Extremes}
 use Rattle.measures.proofs.WindowLaws.{newest-none}
-use Rattle.rule_types.specs.Number.{quarterBars}
-use Rattle.sliding_extremes.specs.WindowExtremeSteps.{olderExtremes}
+use Rattle.rule_types.specs.Number.{quarter_bars}
+use Rattle.sliding_extremes.specs.WindowExtremeSteps.{older_extremes}
 use Rattle.sliding_extremes.proofs.SlideLaws.{Laid, none-laid, laid_next, next-older}
 use Rattle.sliding_extremes.proofs.older.Statement.{statement}
 use Rattle.sliding_extremes.proofs.older.Tie as tie
 
 abbrev invariant-loop : tie.invariant-loop
 invariant-loop prices at highs₀ lows₀ e₀ i₀ highs lows e i =
-    (i ≤ quarterBars) × (length highs ≡ quarterBars) × (length lows ≡ quarterBars) × (e ≡ extremesOf (newest i (take at (barsOf prices))))
-    × Laid (λ (x : Extremes). x.highest) (barsOf prices) at highs i × Laid (λ (x : Extremes). x.lowest) (barsOf prices) at lows i
+    (i ≤ quarter_bars) × (length highs ≡ quarter_bars) × (length lows ≡ quarter_bars) × (e ≡ extremes_of (newest i (take at (bars_of prices))))
+    × Laid (λ (x : Extremes). x.highest) (bars_of prices) at highs i × Laid (λ (x : Extremes). x.lowest) (bars_of prices) at lows i
 
 abbrev decreases-loop : tie.decreases-loop
-decreases-loop prices at highs₀ lows₀ e₀ i₀ highs lows e i = quarterBars - i
+decreases-loop prices at highs₀ lows₀ e₀ i₀ highs lows e i = quarter_bars - i
 
 loop-holds : tie.Need-loop-init invariant-loop decreases-loop
 loop-holds c =
     let start = c.before.before.before.before in
-    let bars = barsOf start.args.prices.now in
+    let bars = bars_of start.args.prices.now in
     let at = start.args.at in
-    (omega arith, start.requires.1, start.requires.2, c.no-bars.ensures ∙ ap extremesOf (sym (newest-none (take at bars))), none-laid (λ (x : Extremes). x.highest) bars at start.args.highs.now start.requires.1, none-laid (λ (x : Extremes). x.lowest) bars at start.args.lows.now start.requires.2)
+    (omega arith, start.requires.1, start.requires.2, c.no-bars.ensures ∙ ap extremes_of (sym (newest-none (take at bars))), none-laid (λ (x : Extremes). x.highest) bars at start.args.highs.now start.requires.1, none-laid (λ (x : Extremes). x.lowest) bars at start.args.lows.now start.requires.2)
 
 loop-again : tie.Need-loop-preserved invariant-loop decreases-loop
 loop-again c =
     let at-loop = c.before.before in
     let start = at-loop.before.before.before.before.before in
-    let bars = barsOf start.args.prices.now in
+    let bars = bars_of start.args.prices.now in
     let at = start.args.at in
     let i = at-loop.loop.i in
     let inv = at-loop.loop.invariant in
-    let few : i < quarterBars = omega (arith, c.before.loop-test.true) in
+    let few : i < quarter_bars = omega (arith, c.before.loop-test.true) in
     (omega (arith, few), simp length-set inv.1, simp length-set inv.2, c.next-older.ensures ∙ rw inv.3 (next-older bars at start.requires.0 i), laid_next (λ (x : Extremes). x.highest) bars at _ i _ few inv.1 inv.3 inv.4, laid_next (λ (x : Extremes). x.lowest) bars at _ i _ few inv.2 inv.3 inv.5)
 
 returns : tie.Need-returns invariant-loop decreases-loop
-unfolding olderExtremes
+unfolding older_extremes
 returns c =
     let at-loop = c.before in
     let inv = at-loop.loop.invariant in
-    let all : at-loop.loop.i ≡ quarterBars = omega (arith, inv.0, c.loop-test.false) in
+    let all : at-loop.loop.i ≡ quarter_bars = omega (arith, inv.0, c.loop-test.false) in
     (rw all at inv.4, rw all at inv.5)
 
 pub older-spec : {M : Type 1} → statement M

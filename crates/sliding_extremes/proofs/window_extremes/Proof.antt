@@ -2,7 +2,7 @@
 use borrow.Author.Rules.{rules}
 use mathlib.Core.Path.{refl}
 use native.Mathlib.Omega.{arith}
-use Rattle.sliding_extremes.specs.WindowExtreme.{windowExtremes}
+use Rattle.sliding_extremes.specs.WindowExtreme.{window_extremes}
 use Rattle.sliding_extremes.proofs.SlideLaws.{windows-end}
 use Rattle.sliding_extremes.proofs.window_extremes.Statement.{statement}
 use Rattle.sliding_extremes.proofs.window_extremes.Tie as tie
@@ -17,7 +17,7 @@ newer-requires c κs =
     (omega (arith, least.least.ensures, least.before.count.ensures), older.older.ensures.0, older.older.ensures.1)
 
 returns : tie.Need-returns
-unfolding windowExtremes
+unfolding window_extremes
 returns c =
     let newer = c.before.before in
     let least = newer.before.before.before.before.before.before.before.before in

@@ -1,10 +1,10 @@
 -- The code is the definition.
-use Rattle.star_rules.specs.StarRule.{dojiKind}
+use Rattle.star_rules.specs.StarRule.{doji_kind}
 use Rattle.star_rules.proofs.doji_kind.Statement.{statement}
 use Rattle.star_rules.proofs.doji_kind.Tie as tie
 
 returns : tie.Need-returns
-unfolding dojiKind
+unfolding doji_kind
 returns c =
     simp (
       c.pick3.ensures,

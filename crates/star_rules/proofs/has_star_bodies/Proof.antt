@@ -1,11 +1,11 @@
 -- The code is the definition.
-use Rattle.star_rules.specs.StarRule.{starBodies}
+use Rattle.star_rules.specs.StarRule.{star_bodies}
 use borrow.Author.Rules.{rules}
 use Rattle.star_rules.proofs.has_star_bodies.Statement.{statement}
 use Rattle.star_rules.proofs.has_star_bodies.Tie as tie
 
 returns : tie.Need-returns
-unfolding starBodies
+unfolding star_bodies
 returns c =
     simp (
       c.body3.ensures,

@@ -1,10 +1,10 @@
 -- The code is the definition.
-use Rattle.star_rules.specs.StarRule.{eveningOf}
+use Rattle.star_rules.specs.StarRule.{evening_of}
 use Rattle.star_rules.proofs.is_evening.Statement.{statement}
 use Rattle.star_rules.proofs.is_evening.Tie as tie
 
 returns : tie.Need-returns
-unfolding eveningOf
+unfolding evening_of
 returns c =
     simp (
       c.before.min.ensures,

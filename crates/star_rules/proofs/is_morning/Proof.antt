@@ -1,10 +1,10 @@
 -- The code is the definition.
-use Rattle.star_rules.specs.StarRule.{morningOf}
+use Rattle.star_rules.specs.StarRule.{morning_of}
 use Rattle.star_rules.proofs.is_morning.Statement.{statement}
 use Rattle.star_rules.proofs.is_morning.Tie as tie
 
 returns : tie.Need-returns
-unfolding morningOf
+unfolding morning_of
 returns c =
     simp (
       c.before.max.ensures,

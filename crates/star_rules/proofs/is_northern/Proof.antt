@@ -1,10 +1,10 @@
 -- The code is the definition.
-use Rattle.star_rules.specs.StarRule.{northernOf}
+use Rattle.star_rules.specs.StarRule.{northern_of}
 use Rattle.star_rules.proofs.is_northern.Statement.{statement}
 use Rattle.star_rules.proofs.is_northern.Tie as tie
 
 returns : tie.Need-returns
-unfolding northernOf
+unfolding northern_of
 returns c =
     simp (
       c.lower.ensures,

@@ -1,12 +1,12 @@
 -- The code is the definition.
-use Rattle.star_rules.specs.StarRule.{sanSzx, dojiCount}
+use Rattle.star_rules.specs.StarRule.{san_szx, doji_count}
 use native.Mathlib.Nat.{add-zero}
 use borrow.Author.Rules.{rules}
 use Rattle.star_rules.proofs.san_szx.Statement.{statement}
 use Rattle.star_rules.proofs.san_szx.Tie as tie
 
 returns : tie.Need-returns
-unfolding sanSzx dojiCount
+unfolding san_szx doji_count
 returns c =
     simp (
       c.pick.ensures,

@@ -1,10 +1,10 @@
 -- The code is the definition.
-use Rattle.star_rules.specs.StarRule.{xingXian}
+use Rattle.star_rules.specs.StarRule.{xing_xian}
 use Rattle.star_rules.proofs.xing_xian.Statement.{statement}
 use Rattle.star_rules.proofs.xing_xian.Tie as tie
 
 returns : tie.Need-returns
-unfolding xingXian
+unfolding xing_xian
 returns c =
     simp (
       c.pick3.ensures,

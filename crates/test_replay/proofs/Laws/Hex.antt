@@ -3,7 +3,7 @@ use Rattle.std.proofs.Common.{◌≡◌, ℕ, ◌+◌, ◌*◌, ◌<◌, ◌≤�
 use mathlib.Core.Bool.{and-false}
 use borrow.Author.Tests.{lt-leb}
 use Rattle.io.specs.Digits.{hex_digit_ascii}
-use Rattle.test_replay.specs.Hex.{value_of, bytes_of, longest, payloadOf}
+use Rattle.test_replay.specs.Hex.{value_of, bytes_of, longest, payload_of}
 
 by_size : (d : ℕ) (t : Bool) → ltb d 10 ≡ t → d < 16 → value_of (hex_digit_ascii d) ≡ d
 unfolding value_of
@@ -69,19 +69,19 @@ module _ {line bytes : List ℕ} {i : ℕ} (d : Decoding line bytes i) where
         found = rw (d.found, e, add-one i, take-suc-set bytes i v inside, append_assoc);
       }
 
-  payload-is : payloadOf line ≡ take i bytes → (take i bytes ≡ payloadOf line) × (i ≡ length (payloadOf line))
+  payload-is : payload_of line ≡ take i bytes → (take i bytes ≡ payload_of line) × (i ≡ length (payload_of line))
   payload-is e = let inside : i ≤ length bytes = omega arith in (sym e, sym (ap length e ∙ length-take-le i bytes inside))
 
   -- no pair of digits is left
-  pub payload-end : bytes_of (drop (2 * i + 2) line) ≡ [] → (take i bytes ≡ payloadOf line) × (i ≡ length (payloadOf line))
-  unfolding payloadOf
+  pub payload-end : bytes_of (drop (2 * i + 2) line) ≡ [] → (take i bytes ≡ payload_of line) × (i ≡ length (payload_of line))
+  unfolding payload_of
   payload-end e =
       let few : length (take i bytes) ≤ longest = simp length-take (omega arith) in
       payload-is (rw (d.found, e, append-nil, take_all longest (take i bytes) few))
 
   -- there is room for no more
-  pub payload-full : i ≡ longest → (take i bytes ≡ payloadOf line) × (i ≡ length (payloadOf line))
-  unfolding payloadOf
+  pub payload-full : i ≡ longest → (take i bytes ≡ payload_of line) × (i ≡ length (payload_of line))
+  unfolding payload_of
   payload-full e =
       let inside : i ≤ length bytes = omega arith in
       payload-is (rw d.found (rw (← e) (take_at (take i bytes) _ i (length-take-le i bytes inside))))

@@ -1,5 +1,5 @@
 -- The code is the definition.
-use Rattle.two_bar_rules.specs.TwoBarRule.{flatOf}
+use Rattle.two_bar_rules.specs.TwoBarRule.{flat_of}
 use borrow.Author.Rules.{rules}
 use Rattle.two_bar_rules.proofs.is_flat.Statement.{statement}
 use Rattle.two_bar_rules.proofs.is_flat.Tie as tie
@@ -8,7 +8,7 @@ int-to-float-result : tie.Need-int-to-float-result
 int-to-float-result c = search rules
 
 returns : tie.Need-returns
-unfolding flatOf
+unfolding flat_of
 returns c =
     simp (
       c.before.max.ensures,

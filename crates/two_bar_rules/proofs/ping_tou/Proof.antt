@@ -1,10 +1,10 @@
 -- The code is the definition.
-use Rattle.two_bar_rules.specs.TwoBarRule.{pingTou}
+use Rattle.two_bar_rules.specs.TwoBarRule.{ping_tou}
 use Rattle.two_bar_rules.proofs.ping_tou.Statement.{statement}
 use Rattle.two_bar_rules.proofs.ping_tou.Tie as tie
 
 returns : tie.Need-returns
-unfolding pingTou
+unfolding ping_tou
 returns c =
     simp (
       c.pick3.ensures,

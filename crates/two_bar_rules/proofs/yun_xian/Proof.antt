@@ -1,10 +1,10 @@
 -- The code is the definition.
-use Rattle.two_bar_rules.specs.TwoBarRule.{yunXian}
+use Rattle.two_bar_rules.specs.TwoBarRule.{yun_xian}
 use Rattle.two_bar_rules.proofs.yun_xian.Statement.{statement}
 use Rattle.two_bar_rules.proofs.yun_xian.Tie as tie
 
 returns : tie.Need-returns
-unfolding yunXian
+unfolding yun_xian
 returns c =
     simp (
       c.pick2.ensures,

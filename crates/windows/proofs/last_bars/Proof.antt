@@ -4,10 +4,10 @@ use mathlib.Core.Path.{◌∙◌}
 use native.Mathlib.Omega.{arith}
 use borrow.Author.Rules.{rules}
 use lib.ListN.{length}
-use Rattle.prices.specs.Bar.{barsOf}
+use Rattle.prices.specs.Bar.{bars_of}
 use Rattle.windows.specs.Window.{up_to}
 use Rattle.windows.proofs.RunLaws.{length-bars, bars-part}
-use Rattle.windows.proofs.WindowLaws.{upTo-le, window-part}
+use Rattle.windows.proofs.WindowLaws.{up_to-le, window-part}
 use Rattle.windows.proofs.last_bars.Statement.{statement}
 use Rattle.windows.proofs.last_bars.Tie as tie
 
@@ -17,12 +17,12 @@ sub_part c = search rules
 part-requires : tie.Need-part-requires
 part-requires c κs =
     let counted = c.before.before in
-    omega (arith, c.before.up_to_lem.ensures, counted.count.ensures, upTo-le counted.count.result counted.before.before.args.di)
+    omega (arith, c.before.up_to_lem.ensures, counted.count.ensures, up_to-le counted.count.result counted.before.before.args.di)
 
 returns : tie.Need-returns
 returns c =
     let args = c.before.before.before.before.before.args in
-    let bars = barsOf args.prices.now in
+    let bars = bars_of args.prices.now in
     let p = up_to (length bars) args.di in
     let part = simp (c.before.least.ensures, c.before.before.up_to_lem.ensures, c.before.before.before.count.ensures) at c.part.ensures in
     (rw length-bars at part, rw part (bars-part args.prices.now (p - min args.n p) p ∙ window-part bars args.di args.n))

@@ -1,4 +1,4 @@
--- Each arm of the match is a case of refusalNumber. Assumes nothing.
+-- Each arm of the match is a case of refusal_number. Assumes nothing.
 use borrow.Author.Rules.{rules}
 use Rattle.answers.proofs.refusals.refusal_number.Statement.{statement}
 use Rattle.answers.proofs.refusals.refusal_number.Tie as tie

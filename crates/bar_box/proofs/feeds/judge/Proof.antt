@@ -6,10 +6,10 @@ use mathlib.Core.Path.{◌≡◌, sym, ap, ◌∙◌}
 use native.Mathlib.Omega.{arith}
 use borrow.Author.Rules.{rules}
 use lib.ListN.{length, take, length-take}
-use Rattle.held_extremes.specs.Candidate.{held_of, sameHeld}
-use Rattle.measures.specs.Bar.{Bar, barsOf}
+use Rattle.held_extremes.specs.Candidate.{held_of, same_held}
+use Rattle.measures.specs.Bar.{Bar, bars_of}
 use Rattle.measures.proofs.RunLaws.{bars-take}
-use Rattle.recognisers.specs.Refusal.{feedVerdict}
+use Rattle.recognisers.specs.Refusal.{feed_verdict}
 use Rattle.answers.specs.declared.refusals.Verdict.{Verdict}
 use Rattle.bar_box.proofs.FeedSteps.{lent-few, lent_fits, lent-right}
 use Rattle.bar_box.proofs.feeds.judge.Statement.{statement}
@@ -25,19 +25,19 @@ module _ (told : tie.After-feed-verdict) where
   start = test.before.before.before.before.before
 
   abbrev old : List Bar
-  old = take start.args.old (barsOf start.args.run.now)
+  old = take start.args.old (bars_of start.args.run.now)
 
   abbrev verdict : Verdict
   verdict = told.feed-verdict.result
 
-  seen : barsOf (take (4 * start.args.old) start.args.run.now) ≡ old
+  seen : bars_of (take (4 * start.args.old) start.args.run.now) ≡ old
   seen = let four : 4 * start.args.old ≡ start.args.old * 4 = omega arith in rw four (bars-take start.args.old start.args.run.now)
 
-  right : test.is_held.result ≡ sameHeld start.args.held (held_of start.args.count old)
-  right = test.is_held.ensures.0 ∙ ap (λ (bars : List Bar). sameHeld start.args.held (held_of start.args.count bars)) seen
+  right : test.is_held.result ≡ same_held start.args.held (held_of start.args.count old)
+  right = test.is_held.ensures.0 ∙ ap (λ (bars : List Bar). same_held start.args.held (held_of start.args.count bars)) seen
 
-  is-verdict : verdict ≡ feedVerdict start.args.t start.args.count (sameHeld start.args.held (held_of start.args.count old)) (length start.args.prices.now) (length start.args.sheet.now)
-  is-verdict = told.feed-verdict.ensures ∙ ap (λ (r : Bool). feedVerdict start.args.t start.args.count r (length start.args.prices.now) (length start.args.sheet.now)) right
+  is-verdict : verdict ≡ feed_verdict start.args.t start.args.count (same_held start.args.held (held_of start.args.count old)) (length start.args.prices.now) (length start.args.sheet.now)
+  is-verdict = told.feed-verdict.ensures ∙ ap (λ (r : Bool). feed_verdict start.args.t start.args.count r (length start.args.prices.now) (length start.args.sheet.now)) right
 
 mul-front : tie.Need-overflow-mul-front
 mul-front c = search rules

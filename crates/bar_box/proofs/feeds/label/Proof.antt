@@ -5,10 +5,10 @@ use mathlib.Core.List.{List, ◌++◌}
 use native.Mathlib.Omega.{arith}
 use lib.ListN.{length, take, length-take, length-append}
 use lib.Seq.{length-take-le}
-use Rattle.measures.specs.Bar.{Bar, barsOf}
+use Rattle.measures.specs.Bar.{Bar, bars_of}
 use Rattle.measures.proofs.RunLaws.{length-bars}
 use Rattle.bar_box.specs.Sheet.{before}
-use Rattle.bar_box.specs.Box.{heldAfter}
+use Rattle.bar_box.specs.Box.{held_after}
 use Rattle.bar_box.proofs.HeldRows.{held-read, run-extremes, lent-extremes}
 use Rattle.bar_box.proofs.SeamLaws.{run-seam, feed-sheet}
 use borrow.Author.Rules.{rules}
@@ -73,18 +73,18 @@ module _ (held : tie.After-held-after) where
   start = counted.before.before.before.before
 
   abbrev lent : List Bar
-  lent = barsOf start.args.prices.now
+  lent = bars_of start.args.prices.now
 
   abbrev old : List Bar
-  old = take start.args.old (barsOf start.args.run.now)
+  old = take start.args.old (bars_of start.args.run.now)
 
   new_is : few.least.result ≡ min (length lent) before
   new_is = few.least.ensures ∙ ap (λ (k : ℕ). min k before) counted.count.ensures
 
-  seam : (length old ≡ start.args.old) × (barsOf (take (4 * start.args.old + 4 * few.least.result) put.put-prices.last.1.1.0) ≡ old ++ take few.least.result lent)
+  seam : (length old ≡ start.args.old) × (bars_of (take (4 * start.args.old + 4 * few.least.result) put.put-prices.last.1.1.0) ≡ old ++ take few.least.result lent)
   seam = run-seam start.args.run.now start.args.prices.now put.put-prices.last.1.1.0 start.args.old few.least.result start.pre.0 start.pre.1 new_is put.put-prices.ensures
 
-  is_held : held.held_after.result ≡ heldAfter start.args.was start.args.count old lent
+  is_held : held.held_after.result ≡ held_after start.args.was start.args.count old lent
   is_held =
       let size = counted.count.ensures in
       held-read start.args.was held.held_after.result start.args.count counted.count.result old lent _ size (rw seam.0 start.pre.2) start.pre.5 (seam.1 ∙ ap (λ (k : ℕ). old ++ take k lent) few.least.ensures) held.held_after.ensures

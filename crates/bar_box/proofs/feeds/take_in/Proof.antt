@@ -8,49 +8,49 @@ use borrow.Author.Rules.{rules}
 use lib.ListN.{length, get_or, take, drop, set, length-set, length-take, length-drop, length-map}
 use lib.Ieee.{Float}
 use Rattle.held_extremes.specs.declared.HeldExtremes.{HeldExtremes}
-use Rattle.held_extremes.specs.Candidate.{held_of, sameHeld}
+use Rattle.held_extremes.specs.Candidate.{held_of, same_held}
 use Rattle.held_extremes.proofs.HeldLaws.{held-near}
-use Rattle.measures.specs.Bar.{Bar, barsOf, overlay, pricesOf}
+use Rattle.measures.specs.Bar.{Bar, bars_of, overlay, prices_of}
 use Rattle.measures.specs.Window.{newest}
 use Rattle.measures.proofs.Overlay.{overlay-none, overlay-copy}
 use Rattle.measures.proofs.PriceLaws.{put_next}
 use Rattle.measures.proofs.RunLaws.{bars-take}
 use Rattle.recognisers.specs.Number.{places}
-use Rattle.recognisers.specs.Refusal.{leaves, verdictNumber, feedVerdict}
+use Rattle.recognisers.specs.Refusal.{leaves, verdict_number, feed_verdict}
 use Rattle.answers.specs.declared.refusals.Verdict.{Verdict}
 use Rattle.box_record.specs.declared.boxes.BarBox.{BarBox}
-use Rattle.box_record.proofs.RecordLaws.{noKept, bar-at}
+use Rattle.box_record.proofs.RecordLaws.{no_kept, bar-at}
 use Rattle.bar_box.specs.Sheet.{before, rows_of}
-use Rattle.bar_box.specs.Box.{barsIn, numbered, kept, isRight, heldAfter, outcome, takenIn, verdictOf, fedOf, sheetOf}
+use Rattle.bar_box.specs.Box.{bars_in, numbered, kept, is_right, held_after, outcome, taken_in, verdict_of, fed_of, sheet_of}
 use Rattle.bar_box.proofs.BoxLaws.{held-after-near}
 use Rattle.bar_box.proofs.FeedSteps.{lent-few, lent_fits, lent-box, lent-sheet}
 use Rattle.bar_box.proofs.OrdinalLaws.{length-numbered, numbered-from}
-use Rattle.bar_box.proofs.PlaceLaws.{withExtremes, withBars, by_one, shifted, shifted_start, shifted_next, places-taken}
+use Rattle.bar_box.proofs.PlaceLaws.{with_extremes, with_bars, by_one, shifted, shifted_start, shifted_next, places-taken}
 use Rattle.bar_box.proofs.SeamLaws.{run-bars}
 use Rattle.bar_box.proofs.SheetLaws.{rows-newest}
 use Rattle.bar_box.proofs.feeds.take_in.Statement.{statement}
 use Rattle.bar_box.proofs.feeds.take_in.Tie as tie
 
 abbrev invariant-loop : tie.invariant-loop
-invariant-loop prices sheet t count after kept old from run₀ i₀ run i = (i ≤ old) × (length run ≡ 224) × (run ≡ overlay run₀ 0 (pricesOf (take i (drop from (barsIn after.bars)))))
+invariant-loop prices sheet t count after kept old from run₀ i₀ run i = (i ≤ old) × (length run ≡ 224) × (run ≡ overlay run₀ 0 (prices_of (take i (drop from (bars_in after.bars)))))
 
 abbrev decreases-loop : tie.decreases-loop
 decreases-loop prices sheet t count after kept old from run₀ i₀ run i = old - i
 
 abbrev invariant-loop2 : tie.invariant-loop2
-invariant-loop2 prices sheet count after₀ kept old from i labelled end fed n new stay gone near j₀ after j = (j ≤ near) × (near < places) × (length after.bars ≡ places) × (after ≡ withBars after₀ (shifted after₀.bars j₀ gone j))
+invariant-loop2 prices sheet count after₀ kept old from i labelled end fed n new stay gone near j₀ after j = (j ≤ near) × (near < places) × (length after.bars ≡ places) × (after ≡ with_bars after₀ (shifted after₀.bars j₀ gone j))
 
 abbrev decreases-loop2 : tie.decreases-loop2
 decreases-loop2 prices sheet count after₀ kept old from i labelled end fed n new stay gone near j₀ after j = near - j
 
 abbrev invariant-loop3 : tie.invariant-loop3
-invariant-loop3 prices sheet count after₀ kept old from i labelled end fed n new stay gone near j₀ after j = (j ≤ stay) × (j₀ ≤ j) × (length after.bars ≡ places) × (after ≡ withBars after₀ (shifted after₀.bars j₀ gone j))
+invariant-loop3 prices sheet count after₀ kept old from i labelled end fed n new stay gone near j₀ after j = (j ≤ stay) × (j₀ ≤ j) × (length after.bars ≡ places) × (after ≡ with_bars after₀ (shifted after₀.bars j₀ gone j))
 
 abbrev decreases-loop3 : tie.decreases-loop3
 decreases-loop3 prices sheet count after₀ kept old from i labelled end fed n new stay gone near j₀ after j = stay - j
 
 abbrev invariant-loop4 : tie.invariant-loop4
-invariant-loop4 prices sheet count after₀ kept old from i labelled end fed n new stay gone near j first k₀ after k = (k ≤ new) × (length after.bars ≡ places) × (after ≡ withBars after₀ (overlay after₀.bars stay (take k (drop first (numbered count (barsOf fed))))))
+invariant-loop4 prices sheet count after₀ kept old from i labelled end fed n new stay gone near j first k₀ after k = (k ≤ new) × (length after.bars ≡ places) × (after ≡ with_bars after₀ (overlay after₀.bars stay (take k (drop first (numbered count (bars_of fed))))))
 
 abbrev decreases-loop4 : tie.decreases-loop4
 decreases-loop4 prices sheet count after₀ kept old from i labelled end fed n new stay gone near j first k₀ after k = new - k
@@ -87,10 +87,10 @@ module _ (judged : tie.After-judge invariant-loop decreases-loop invariant-loop2
 
   -- the bars that it takes
   abbrev lent : List Bar
-  lent = barsOf (take judged.judge.result.end prices)
+  lent = bars_of (take judged.judge.result.end prices)
 
   abbrev old : List Bar
-  old = take two.least2.result (barsOf at-loop.loop.run)
+  old = take two.least2.result (bars_of at-loop.loop.run)
 
   full : length given.bars ≡ places
   full = simp length-map at start.good.0.1.1.1.1.1.0.1.0.1
@@ -105,20 +105,20 @@ module _ (judged : tie.After-judge invariant-loop decreases-loop invariant-loop2
       sym (bars-take n at-loop.loop.run) ∙ rw (← four) seen
 
   -- what rows and held extremes are made of reaches no further back
-  is-verdict : verdict ≡ verdictOf given (length prices) (length sheet)
-  unfolding isRight
+  is-verdict : verdict ≡ verdict_of given (length prices) (length sheet)
+  unfolding is_right
   is-verdict =
       judged.judge.ensures.0
-      ∙ ap (λ (bars : List Bar). feedVerdict given.thresholds given.count (sameHeld given.extremes (held_of given.count bars)) (length prices) (length sheet)) front
-      ∙ ap (λ (h : HeldExtremes). feedVerdict given.thresholds given.count (sameHeld given.extremes h) (length prices) (length sheet)) (held-near given.count before (kept given) (omega arith))
+      ∙ ap (λ (bars : List Bar). feed_verdict given.thresholds given.count (same_held given.extremes (held_of given.count bars)) (length prices) (length sheet)) front
+      ∙ ap (λ (h : HeldExtremes). feed_verdict given.thresholds given.count (same_held given.extremes h) (length prices) (length sheet)) (held-near given.count before (kept given) (omega arith))
 
   end_is : judged.judge.result.end ≡ leaves verdict 0 (length prices)
   end_is = judged.judge.ensures.1.0
 
-  holds : judged.judge.result.held ≡ (takenIn given lent).extremes
+  holds : judged.judge.result.held ≡ (taken_in given lent).extremes
   holds =
       judged.judge.ensures.1.1.0
-      ∙ ap (λ (bars : List Bar). heldAfter given.extremes given.count bars lent) front
+      ∙ ap (λ (bars : List Bar). held_after given.extremes given.count bars lent) front
       ∙ held-after-near given.extremes before given.count (kept given) lent (omega arith)
 
   rows : judged.judge.last.1.1.1.1.1.1.0 ≡ overlay sheet 0 (rows_of given.thresholds given.count (kept given) lent)
@@ -131,7 +131,7 @@ module _ (judged : tie.After-judge invariant-loop decreases-loop invariant-loop2
   fit : given.count + length lent ≤ 4294967295
   fit =
       let bound : given.count ≤ 4294967295 = omega (arith, start) in
-      subst (λ (k : ℕ). given.count + length (barsOf (take k prices)) ≤ 4294967295) (sym end_is) (lent_fits given.thresholds given.count _ prices (length sheet) verdict (sym judged.judge.ensures.0) bound).0
+      subst (λ (k : ℕ). given.count + length (bars_of (take k prices)) ≤ 4294967295) (sym end_is) (lent_fits given.thresholds given.count _ prices (length sheet) verdict (sym judged.judge.ensures.0) bound).0
 
 -- ---- and on the way to the first loop over the places
 
@@ -147,7 +147,7 @@ module _ (one : tie.After-by-one invariant-loop decreases-loop invariant-loop2 d
 
   -- the box with what is held now
   abbrev box : BarBox
-  box = withExtremes (given judged) judged.judge.result.held
+  box = with_extremes (given judged) judged.judge.result.held
 
   abbrev gone : ℕ
   gone = (first judged).least.result - four.least4.result
@@ -178,7 +178,7 @@ sub-from c = search rules
 
 loop-holds :
     tie.Need-loop-init invariant-loop decreases-loop invariant-loop2 decreases-loop2 invariant-loop3 decreases-loop3 invariant-loop4 decreases-loop4
-unfolding pricesOf
+unfolding prices_of
 loop-holds c = (search rules, refl, sym (overlay-none _ 0))
 
 add-place :
@@ -241,7 +241,7 @@ loop-again c =
     let old = two.least2.ensures in (
       search rules,
       put.put-bar.auto.1.0 ∙ inv.1,
-      put.put-bar.ensures ∙ rw (inv.2, ← bar-at bars from i) (put_next _ (drop from (barsIn bars)) i (rw (length-drop, length-map) (omega arith)) (omega arith)),
+      put.put-bar.ensures ∙ rw (inv.2, ← bar-at bars from i) (put_next _ (drop from (bars_in bars)) i (rw (length-drop, length-map) (omega arith)) (omega arith)),
     )
 
 slice-aggregate-judge :
@@ -358,7 +358,7 @@ loop2-again c =
     let taken = c.before.loop2-test.true in
     let by = (moved one).2 j taken in
     let there : j + gone one < length (box one).bars = omega (arith, by, (moved one).0, taken, (four one).least4.ensures, (four one).before.least3.ensures, (first (judged one)).least.ensures, full (judged one)) in
-    (search rules, search rules, simp length-set inv.2, ap (λ (x : BarBox). withBars x (set x.bars j (get_or x.bars (j + 1) noKept))) inv.3 ∙ ap (withBars (box one)) (shifted_next (box one).bars 0 (gone one) j (j + 1) noKept (omega (arith, by)) (omega arith) there))
+    (search rules, search rules, simp length-set inv.2, ap (λ (x : BarBox). with_bars x (set x.bars j (get_or x.bars (j + 1) no_kept))) inv.3 ∙ ap (with_bars (box one)) (shifted_next (box one).bars 0 (gone one) j (j + 1) no_kept (omega (arith, by)) (omega arith) there))
 
 loop3-holds :
     tie.Need-loop3-init invariant-loop decreases-loop invariant-loop2 decreases-loop2 invariant-loop3 decreases-loop3 invariant-loop4 decreases-loop4
@@ -366,7 +366,7 @@ loop3-holds c =
     let lp = c.before in
     let after = lp.loop2.after in
     let inv = lp.loop2.invariant in
-    (omega (arith, (moved lp.before).0, inv.0), omega arith, inv.2, ap (withBars after) (sym (shifted_start after.bars lp.loop2.j (gone lp.before))))
+    (omega (arith, (moved lp.before).0, inv.0), omega arith, inv.2, ap (with_bars after) (sym (shifted_start after.bars lp.loop2.j (gone lp.before))))
 
 add-next-2 :
     tie.Need-overflow-add-next-2 invariant-loop decreases-loop invariant-loop2 decreases-loop2 invariant-loop3 decreases-loop3 invariant-loop4 decreases-loop4
@@ -422,7 +422,7 @@ loop3-again c =
     let inv = lp3.loop3.invariant in
     let taken = c.before.loop3-test.true in
     let there : j + gone one < length was.bars = omega (arith, taken, (four one).least4.ensures, (four one).before.least3.ensures, (first (judged one)).least.ensures, lp.loop2.invariant.2) in
-    (search rules, omega (arith, inv.1), simp length-set inv.2, ap (λ (x : BarBox). withBars x (set x.bars j (get_or x.bars (j + gone one) noKept))) inv.3 ∙ ap (withBars was) (shifted_next was.bars lp.loop2.j (gone one) j (j + gone one) noKept refl inv.1 there))
+    (search rules, omega (arith, inv.1), simp length-set inv.2, ap (λ (x : BarBox). with_bars x (set x.bars j (get_or x.bars (j + gone one) no_kept))) inv.3 ∙ ap (with_bars was) (shifted_next was.bars lp.loop2.j (gone one) j (j + gone one) no_kept refl inv.1 there))
 
 sub-first :
     tie.Need-overflow-sub-first invariant-loop decreases-loop invariant-loop2 decreases-loop2 invariant-loop3 decreases-loop3 invariant-loop4 decreases-loop4
@@ -433,7 +433,7 @@ loop4-holds :
 loop4-holds c =
     let lp = c.before in
     let after = lp.loop3.after in
-    (search rules, lp.loop3.invariant.2, ap (withBars after) (sym (overlay-none after.bars (stay lp.before.before.before))))
+    (search rules, lp.loop3.invariant.2, ap (with_bars after) (sym (overlay-none after.bars (stay lp.before.before.before))))
 
 add-numbered-bar :
     tie.Need-overflow-add-numbered-bar invariant-loop decreases-loop invariant-loop2 decreases-loop2 invariant-loop3 decreases-loop3 invariant-loop4 decreases-loop4
@@ -497,8 +497,8 @@ loop4-again c =
     let size = length-numbered count bars in
     let within : from + k < length bars = omega (arith, taken, (counted one).count.ensures, (four one).before.least3.ensures) in
     let value = c.numbered-bar.ensures ∙ sym (numbered-from count bars from k within) in
-    let Laid-next = overlay-copy was.bars (stay one) (drop from rs) k (stay one + k) noKept refl (rw (length-drop, size) (omega arith)) (omega (arith, taken, (four one).least4.ensures, (four one).before.least3.ensures, lp3.loop3.invariant.2)) in
-    (search rules, simp length-set inv.1, ap (λ (x : BarBox). withBars x (set x.bars (stay one + k) c.numbered-bar.result)) inv.2 ∙ ap (withBars was) (rw value Laid-next))
+    let Laid-next = overlay-copy was.bars (stay one) (drop from rs) k (stay one + k) no_kept refl (rw (length-drop, size) (omega arith)) (omega (arith, taken, (four one).least4.ensures, (four one).before.least3.ensures, lp3.loop3.invariant.2)) in
+    (search rules, simp length-set inv.1, ap (λ (x : BarBox). with_bars x (set x.bars (stay one + k) c.numbered-bar.result)) inv.2 ∙ ap (with_bars was) (rw value Laid-next))
 
 cast-after :
     tie.Need-overflow-cast-after invariant-loop decreases-loop invariant-loop2 decreases-loop2 invariant-loop3 decreases-loop3 invariant-loop4 decreases-loop4
@@ -517,7 +517,7 @@ same_length :
 same_length c = search rules
 
 returns : tie.Need-returns invariant-loop decreases-loop invariant-loop2 decreases-loop2 invariant-loop3 decreases-loop3 invariant-loop4 decreases-loop4
-unfolding fedOf sheetOf
+unfolding fed_of sheet_of
 returns c =
     let lp4 = c.before in
     let lp3 = lp4.before.before in
@@ -530,11 +530,11 @@ returns c =
     let last : lp3.loop3.j ≡ stay one = omega (arith, c.before.before.loop3-test.false, lp3.loop3.invariant.0) in
     let all : lp4.loop4.k ≡ new one = omega (arith, c.loop4-test.false, lp4.loop4.invariant.0) in
     let taken_in = places-taken b (full at) (lent at) (first at).least.result (counted one).count.result (new one) (stay one) lp.loop2.j at.judge.result.held lp.loop2.after lp3.loop3.after lp4.loop4.after (holds at) (first at).least.ensures (counted one).count.ensures (four one).before.least3.ensures (four one).least4.ensures (omega (arith, (moved one).0, lp.loop2.invariant.0)) lp.loop2.invariant.3 (rw last at lp3.loop3.invariant.3) (rw all at lp4.loop4.invariant.2) in
-    let after = taken_in ∙ ap (λ (k : ℕ). takenIn b (barsOf (take k ps))) (end_is at) ∙ lent-box v b (full at) ps in
-    let written = rows at ∙ ap (λ (k : ℕ). overlay (sheet at) 0 (rows_of b.thresholds b.count (kept b) (barsOf (take k ps)))) (end_is at) ∙ lent-sheet v b.thresholds b.count (kept b) ps (sheet at) in
+    let after = taken_in ∙ ap (λ (k : ℕ). taken_in b (bars_of (take k ps))) (end_is at) ∙ lent-box v b (full at) ps in
+    let written = rows at ∙ ap (λ (k : ℕ). overlay (sheet at) 0 (rows_of b.thresholds b.count (kept b) (bars_of (take k ps)))) (end_is at) ∙ lent-sheet v b.thresholds b.count (kept b) ps (sheet at) in
     let is = is-verdict at in (
-      ap (outcome v) after ∙ ap (λ (w : Verdict). outcome w (leaves w b (takenIn b (barsOf ps)))) is,
-      (written ∙ ap (λ (w : Verdict). leaves w (sheet at) (overlay (sheet at) 0 (rows_of b.thresholds b.count (kept b) (barsOf ps)))) is, ap (λ (w : Verdict). verdictNumber w) is),
+      ap (outcome v) after ∙ ap (λ (w : Verdict). outcome w (leaves w b (taken_in b (bars_of ps)))) is,
+      (written ∙ ap (λ (w : Verdict). leaves w (sheet at) (overlay (sheet at) 0 (rows_of b.thresholds b.count (kept b) (bars_of ps)))) is, ap (λ (w : Verdict). verdict_number w) is),
     )
 
 pub take-in-spec : {M : Type 1} → statement M

@@ -7,8 +7,8 @@ use borrow.Author.Rules.{rules}
 use lib.Dec.{eqb}
 use lib.ListN.{length, take, drop, length-drop}
 use lib.Seq.{take_all}
-use Rattle.recognisers.specs.Number.{quarterBars, rowBytes}
-use Rattle.measures.specs.Bar.{barsOf, overlay}
+use Rattle.recognisers.specs.Number.{quarter_bars, row_bytes}
+use Rattle.measures.specs.Bar.{bars_of, overlay}
 use Rattle.bar_box.specs.Sheet.{rows_of}
 use Rattle.measures.proofs.Overlay.{overlay-none}
 use Rattle.bar_box.proofs.HeldRows.{Slides, windows-slide, windows_size, row_by}
@@ -18,15 +18,15 @@ use Rattle.bar_box.proofs.sheets.label_run.Tie as tie
 
 abbrev invariant-loop2 : tie.invariant-loop2
 invariant-loop2 t prices first held len sheet₀ at n j₀ highs lows m k₀ sheet j k =
-    (j ≡ j₀ + k) × (j ≤ m) × (length highs ≡ quarterBars) × (length lows ≡ quarterBars) × Slides (barsOf prices) (first + j₀) highs lows × (length sheet ≡ length sheet₀)
-    × (sheet ≡ overlay sheet₀ (at + rowBytes * j₀) (rows_of t (len + j₀) (take (first + j₀) (barsOf prices)) (take k (drop (first + j₀) (barsOf prices)))))
+    (j ≡ j₀ + k) × (j ≤ m) × (length highs ≡ quarter_bars) × (length lows ≡ quarter_bars) × Slides (bars_of prices) (first + j₀) highs lows × (length sheet ≡ length sheet₀)
+    × (sheet ≡ overlay sheet₀ (at + row_bytes * j₀) (rows_of t (len + j₀) (take (first + j₀) (bars_of prices)) (take k (drop (first + j₀) (bars_of prices)))))
 
 abbrev decreases-loop2 : tie.decreases-loop2
 decreases-loop2 t prices first held len sheet₀ at n j₀ highs lows m k₀ sheet j k = m - j
 
 abbrev invariant-loop : tie.invariant-loop
 invariant-loop t prices first held len sheet₀ at n j₀ sheet j =
-    (j ≤ n) × (length sheet ≡ length sheet₀) × (sheet ≡ overlay sheet₀ at (rows_of t len (take first (barsOf prices)) (take j (drop first (barsOf prices)))))
+    (j ≤ n) × (length sheet ≡ length sheet₀) × (sheet ≡ overlay sheet₀ at (rows_of t len (take first (bars_of prices)) (take j (drop first (bars_of prices)))))
 
 abbrev decreases-loop : tie.decreases-loop
 decreases-loop t prices first held len sheet₀ at n j₀ sheet j = n - j
@@ -62,11 +62,11 @@ loop2-holds c =
     let counted = at-loop.before in
     let start = counted.before.before.before in
     let args = start.args in
-    let bars = barsOf args.prices.now in
+    let bars = bars_of args.prices.now in
     let j = at-loop.loop.j in
     let n = counted.count.result - args.first in
     let size = windows_size (eqb n 1) args.held bars (args.first + j) windows.extremes-from.result windows.extremes-from.ensures in
-    (omega arith, omega (arith, c.least.ensures, test.loop-test.true), size.0, size.1, windows-slide (eqb n 1) args.held bars (args.first + j) windows.extremes-from.result windows.extremes-from.ensures (λ one. let is = eqb-true n 1 one in (omega (arith, is, counted.count.ensures, start.requires.0, test.loop-test.true), start.requires.2 (omega (arith, is, counted.count.ensures)))), refl, sym (overlay-none at-loop.loop.sheet (args.at + rowBytes * j)))
+    (omega arith, omega (arith, c.least.ensures, test.loop-test.true), size.0, size.1, windows-slide (eqb n 1) args.held bars (args.first + j) windows.extremes-from.result windows.extremes-from.ensures (λ one. let is = eqb-true n 1 one in (omega (arith, is, counted.count.ensures, start.requires.0, test.loop-test.true), start.requires.2 (omega (arith, is, counted.count.ensures)))), refl, sym (overlay-none at-loop.loop.sheet (args.at + row_bytes * j)))
 
 loop-less : tie.Need-loop-smaller invariant-loop2 decreases-loop2 invariant-loop decreases-loop
 loop-less c = search rules
@@ -79,13 +79,13 @@ loop-again c =
     let counted = at-loop.before in
     let start = counted.before.before.before in
     let args = start.args in
-    let bars = barsOf args.prices.now in
+    let bars = bars_of args.prices.now in
     let j = at-loop.loop.j in
     let k = inner.loop2.k in
     let inv = at-loop.loop.invariant in
     let now = inner.loop2.invariant in
     let within : args.first + j + k ≤ length bars = omega (arith, now.0, now.1, least.least.ensures, counted.count.ensures, start.requires.0) in
-    let room : args.at + rowBytes * (j + k) ≤ length args.sheet.now = omega (arith, within, start.requires.0, start.requires.1.1) in
+    let room : args.at + row_bytes * (j + k) ≤ length args.sheet.now = omega (arith, within, start.requires.0, start.requires.1.1) in
     (omega (arith, now.1, least.least.ensures), now.5 ∙ inv.1, now.6 ∙ rw (inv.2, now.0) (rows-meet args.t args.len bars args.first j k args.sheet.now args.at within room))
 
 mul-t20 : tie.Need-overflow-mul-t20 invariant-loop2 decreases-loop2 invariant-loop decreases-loop
@@ -161,20 +161,20 @@ loop2-again c =
     let counted = at-loop.before in
     let start = counted.before.before.before in
     let args = start.args in
-    let bars = barsOf args.prices.now in
+    let bars = bars_of args.prices.now in
     let s = at-loop.loop.j in
     let k = inner.loop2.k in
     let j = inner.loop2.j in
     let inv = inner.loop2.invariant in
     let taken = test.loop2-test.true in
-    let few : k < quarterBars = omega (arith, taken, inv.0, least.least.ensures) in
+    let few : k < quarter_bars = omega (arith, taken, inv.0, least.least.ensures) in
     let within : args.first + s + k < length bars = omega (arith, taken, inv.0, least.least.ensures, counted.count.ensures, start.requires.0) in
-    let room : args.at + rowBytes * s + rowBytes * (k + 1) ≤ length at-loop.loop.sheet = omega (arith, within, start.requires.1.1, at-loop.loop.invariant.1) in
+    let room : args.at + row_bytes * s + row_bytes * (k + 1) ≤ length at-loop.loop.sheet = omega (arith, within, start.requires.1.1, at-loop.loop.invariant.1) in
     let ends : args.first + j + 1 ≡ args.first + s + k + 1 = omega (arith, inv.0) in
     let counts : args.len + j + 1 ≡ args.len + s + k + 1 = omega (arith, inv.0) in
-    let stands : args.at + rowBytes * j ≡ args.at + rowBytes * s + rowBytes * k = omega (arith, inv.0) in
+    let stands : args.at + row_bytes * j ≡ args.at + row_bytes * s + row_bytes * k = omega (arith, inv.0) in
     let row = row_by args.t (args.len + s + k + 1) (take (args.first + s + k + 1) bars) _ (inv.4 k few within) in
-    (omega (arith, inv.0), omega (arith, taken), inv.2, inv.3, inv.4, written.label-bar.auto.1.1.1.1.1.0 ∙ inv.5, written.label-bar.ensures ∙ rw (ends, counts, stands, row, inv.6) (overlay-row args.t (args.len + s) bars (args.first + s) k at-loop.loop.sheet (args.at + rowBytes * s) within room))
+    (omega (arith, inv.0), omega (arith, taken), inv.2, inv.3, inv.4, written.label-bar.auto.1.1.1.1.1.0 ∙ inv.5, written.label-bar.ensures ∙ rw (ends, counts, stands, row, inv.6) (overlay-row args.t (args.len + s) bars (args.first + s) k at-loop.loop.sheet (args.at + row_bytes * s) within room))
 
 same_length : tie.Need-same-length invariant-loop2 decreases-loop2 invariant-loop decreases-loop
 same_length c = search rules
@@ -184,7 +184,7 @@ returns c =
     let at-loop = c.before in
     let start = at-loop.before.before.before.before in
     let args = start.args in
-    let new = drop args.first (barsOf args.prices.now) in
+    let new = drop args.first (bars_of args.prices.now) in
     let all : length new ≤ at-loop.loop.j = rw length-drop (omega (arith, at-loop.before.count.ensures, c.loop-test.false)) in
     rw (take_all at-loop.loop.j new all) at at-loop.loop.invariant.2
 

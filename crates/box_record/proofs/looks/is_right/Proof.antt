@@ -5,8 +5,8 @@ use native.Mathlib.Omega.{arith}
 use lib.ListN.{length-take}
 use borrow.Author.Rules.{rules}
 use Rattle.held_extremes.proofs.HeldLaws.{held-near}
-use Rattle.recognisers.specs.Number.{quarterBars, places}
-use Rattle.box_record.specs.Box.{kept, isRight}
+use Rattle.recognisers.specs.Number.{quarter_bars, places}
+use Rattle.box_record.specs.Box.{kept, is_right}
 use Rattle.box_record.proofs.looks.is_right.Statement.{statement}
 use Rattle.box_record.proofs.looks.is_right.Tie as tie
 
@@ -32,13 +32,13 @@ is-held-requires : tie.Need-is-held-requires
 is-held-requires c κs = search rules
 
 returns : tie.Need-returns
-unfolding isRight
+unfolding is_right
 returns c =
     let few = c.before.before in
     let run = few.before.before in
     let b = run.before.before.before.args.b in
-    let end : 4 * few.least.result ≡ 4 * min quarterBars (min b.count places) = omega (arith, few.least.ensures) in
-    c.is_held.ensures.0 ∙ rw (end, run.newest-run.ensures.1, held-near b.count quarterBars (kept b) (omega arith))
+    let end : 4 * few.least.result ≡ 4 * min quarter_bars (min b.count places) = omega (arith, few.least.ensures) in
+    c.is_held.ensures.0 ∙ rw (end, run.newest-run.ensures.1, held-near b.count quarter_bars (kept b) (omega arith))
 
 pub is-right-spec : {M : Type 1} → statement M
 is-right-spec =

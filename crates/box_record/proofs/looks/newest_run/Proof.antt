@@ -5,8 +5,8 @@ use native.Mathlib.Omega.{arith}
 use borrow.Author.Rules.{rules}
 use lib.ListN.{length, take, drop, length-drop, length-map}
 use Rattle.recognisers.specs.Number.{places}
-use Rattle.measures.specs.Bar.{overlay, pricesOf}
-use Rattle.box_record.specs.Box.{barsIn}
+use Rattle.measures.specs.Bar.{overlay, prices_of}
+use Rattle.box_record.specs.Box.{bars_in}
 use Rattle.measures.proofs.Overlay.{overlay-none}
 use Rattle.measures.proofs.PriceLaws.{put_next}
 use Rattle.box_record.proofs.RecordLaws.{bar-at, kept_run}
@@ -14,7 +14,7 @@ use Rattle.box_record.proofs.looks.newest_run.Statement.{statement}
 use Rattle.box_record.proofs.looks.newest_run.Tie as tie
 
 abbrev invariant-loop : tie.invariant-loop
-invariant-loop count most bars kept n from run₀ i₀ run i = (i ≤ n) × (length run ≡ 4 * places) × (run ≡ overlay run₀ 0 (pricesOf (take i (drop from (barsIn bars)))))
+invariant-loop count most bars kept n from run₀ i₀ run i = (i ≤ n) × (length run ≡ 4 * places) × (run ≡ overlay run₀ 0 (prices_of (take i (drop from (bars_in bars)))))
 
 abbrev decreases-loop : tie.decreases-loop
 decreases-loop count most bars kept n from run₀ i₀ run i = n - i
@@ -29,7 +29,7 @@ sub-from : tie.Need-overflow-sub-from invariant-loop decreases-loop
 sub-from c = search rules
 
 loop-holds : tie.Need-loop-init invariant-loop decreases-loop
-unfolding pricesOf
+unfolding prices_of
 loop-holds c = (search rules, refl, sym (overlay-none _ 0))
 
 add-place : tie.Need-overflow-add-place invariant-loop decreases-loop
@@ -67,7 +67,7 @@ loop-again c =
     let all : length bars ≡ places = start.well-formed.1.0.1.0.1 in (
       search rules,
       put.put-bar.auto.1.0 ∙ inv.1,
-      put.put-bar.ensures ∙ rw (inv.2, ← bar-at bars from i) (put_next _ (drop from (barsIn bars)) i (rw (length-drop, length-map) (omega (arith, kept.least.ensures, some.least2.ensures))) (omega (arith, kept.least.ensures, some.least2.ensures))),
+      put.put-bar.ensures ∙ rw (inv.2, ← bar-at bars from i) (put_next _ (drop from (bars_in bars)) i (rw (length-drop, length-map) (omega (arith, kept.least.ensures, some.least2.ensures))) (omega (arith, kept.least.ensures, some.least2.ensures))),
     )
 
 returns : tie.Need-returns invariant-loop decreases-loop

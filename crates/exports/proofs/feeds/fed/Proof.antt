@@ -2,13 +2,13 @@
 use mathlib.Core.Path.{◌≡◌, refl, ◌∙◌}
 use borrow.Author.Rules.{rules}
 use lib.ListN.{length}
-use Rattle.measures.specs.Bar.{barsOf, overlay}
+use Rattle.measures.specs.Bar.{bars_of, overlay}
 use Rattle.answers.specs.declared.refusals.Verdict.{Verdict, TheVariants.Accepted, TheVariants.Denied}
-use Rattle.recognisers.specs.Refusal.{leaves, feedVerdict}
-use Rattle.bar_box.specs.Box.{freshBox, isRight, takenIn, fedOf, sheetOf}
+use Rattle.recognisers.specs.Refusal.{leaves, feed_verdict}
+use Rattle.bar_box.specs.Box.{fresh_box, is_right, taken_in, fed_of, sheet_of}
 use Rattle.bar_box.proofs.PartLaws.{rows_from}
-use Rattle.tallies.specs.Tally.{freshTally}
-use Rattle.tallies.specs.Feed.{talliedOf, talliedSheet}
+use Rattle.tallies.specs.Tally.{fresh_tally}
+use Rattle.tallies.specs.Feed.{tallied_of, tallied_sheet}
 use Rattle.tallies.proofs.FeedLaws.{plain-verdict}
 use Rattle.tallies.proofs.RowLaws.{fresh-adds}
 use Rattle.exports.proofs.feeds.fed.Statement.{statement}
@@ -19,17 +19,17 @@ twice Accepted x y = refl
 twice (Denied r) x y = refl
 
 returns : tie.Need-returns
-unfolding talliedOf talliedSheet fedOf sheetOf
+unfolding tallied_of tallied_sheet fed_of sheet_of
 returns c =
     let made = c.before.before.before in
     let box = made.before.before in
     let args = box.before.before.before.before.before.args in
     let t = args.t in
-    let b = freshBox t in
+    let b = fresh_box t in
     let ps = args.prices.now in
-    let same = plain-verdict t 0 (isRight b) freshTally (length ps) (length args.sheet.now) fresh-adds in (
-      rw (made.feed-parts.ensures.0, box.fresh2.ensures, box.before.fresh.ensures, same) (rw (twice (feedVerdict t 0 (isRight b) (length ps) (length args.sheet.now)) b (takenIn b (barsOf ps)))),
-      made.feed-parts.ensures.1 ∙ rw (box.fresh2.ensures, box.before.fresh.ensures, same) (twice (feedVerdict t 0 (isRight b) (length ps) (length args.sheet.now)) args.sheet.now (overlay args.sheet.now 0 (rows_from b (barsOf ps)))),
+    let same = plain-verdict t 0 (is_right b) fresh_tally (length ps) (length args.sheet.now) fresh-adds in (
+      rw (made.feed-parts.ensures.0, box.fresh2.ensures, box.before.fresh.ensures, same) (rw (twice (feed_verdict t 0 (is_right b) (length ps) (length args.sheet.now)) b (taken_in b (bars_of ps)))),
+      made.feed-parts.ensures.1 ∙ rw (box.fresh2.ensures, box.before.fresh.ensures, same) (twice (feed_verdict t 0 (is_right b) (length ps) (length args.sheet.now)) args.sheet.now (overlay args.sheet.now 0 (rows_from b (bars_of ps)))),
     )
 
 pub fed-spec : {M : Type 1} → statement M

@@ -2,8 +2,8 @@
 use mathlib.Core.Path.{ap, ◌∙◌}
 use mathlib.Core.Logic.{⊎_elim}
 use borrow.Author.Rules.{rules}
-use Rattle.recognisers.specs.Refusal.{verdictNumber}
-use Rattle.bar_box.specs.Box.{freshBox}
+use Rattle.recognisers.specs.Refusal.{verdict_number}
+use Rattle.bar_box.specs.Box.{fresh_box}
 use Rattle.tallies.specs.declared.feeds.Tallied.{Tallied}
 use Rattle.exports.proofs.TallyLaws.{tallied-is, sheet-is, numbers-refused, numbers-accepted}
 use Rattle.exports.proofs.tally.jcc_tally.Statement.{statement}
@@ -18,10 +18,10 @@ returns c =
     let box = made.before.before in
     let table = box.before in
     let set = table.before.before in
-    let same-box = box.fresh.ensures ∙ ap freshBox set.new.ensures in
+    let same-box = box.fresh.ensures ∙ ap fresh_box set.new.ensures in
     let same-tally = table.table_of.ensures in
     let one = tallied-is _ _ _ _ _ same-box same-tally _ made.feed-parts.ensures.0 in (
-      c.verdict-number.ensures ∙ ap (λ (o : Tallied). verdictNumber o.verdict) one,
+      c.verdict-number.ensures ∙ ap (λ (o : Tallied). verdict_number o.verdict) one,
       sheet-is _ _ _ _ _ same-box same-tally _ made.feed-parts.ensures.1,
       ⊎_elim
           (λ w. numbers-accepted _ _ one _ w.1.given.1 _ (w.7 ∙ w.4.ensures))

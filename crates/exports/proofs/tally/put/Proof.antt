@@ -8,13 +8,13 @@ use Rattle.measures.specs.Bar.{overlay}
 use Rattle.measures.proofs.Overlay.{overlay-none, overlay-copy}
 use Rattle.bar_box.proofs.BoxLaws.{take_same}
 use Rattle.tallies.specs.Count.{cells}
-use Rattle.exports.specs.Tally.{numbersOf}
+use Rattle.exports.specs.Tally.{numbers_of}
 use Rattle.exports.proofs.NumberLaws.{length-numbers, number_of}
 use Rattle.exports.proofs.tally.put.Statement.{statement}
 use Rattle.exports.proofs.tally.put.Tie as tie
 
 abbrev invariant-loop : tie.invariant-loop
-invariant-loop tally numbers₀ n i₀ numbers i = (i ≤ n) × (length numbers ≡ length numbers₀) × (numbers ≡ overlay numbers₀ 0 (take i (numbersOf tally)))
+invariant-loop tally numbers₀ n i₀ numbers i = (i ≤ n) × (length numbers ≡ length numbers₀) × (numbers ≡ overlay numbers₀ 0 (take i (numbers_of tally)))
 
 abbrev decreases-loop : tie.decreases-loop
 decreases-loop tally numbers₀ n i₀ numbers i = n - i
@@ -51,7 +51,7 @@ loop-again c =
     let most : i < cells = omega (arith, at-loop.before.least.ensures) in
     let room : i < length start.args.numbers.now = omega (arith, at-loop.before.least.ensures) in
     let size = length-numbers tally in
-    (omega arith, rw length-set at-loop.loop.invariant.1, rw (at-loop.loop.invariant.2, c.cell.ensures, ← number_of tally i most) (overlay-copy start.args.numbers.now 0 (numbersOf tally) i i 0 (omega arith) (omega arith) room))
+    (omega arith, rw length-set at-loop.loop.invariant.1, rw (at-loop.loop.invariant.2, c.cell.ensures, ← number_of tally i most) (overlay-copy start.args.numbers.now 0 (numbers_of tally) i i 0 (omega arith) (omega arith) room))
 
 same_length : tie.Need-same-length invariant-loop decreases-loop
 same_length c = search rules
@@ -62,7 +62,7 @@ returns c =
     let start = at-loop.before.before.before in
     let tally = start.args.tally in
     let size = length-numbers tally in
-    at-loop.loop.invariant.2 ∙ rw (take_same (numbersOf tally) at-loop.loop.i (length start.args.numbers.now) (omega (arith, at-loop.before.least.ensures)))
+    at-loop.loop.invariant.2 ∙ rw (take_same (numbers_of tally) at-loop.loop.i (length start.args.numbers.now) (omega (arith, at-loop.before.least.ensures)))
 
 pub put_spec : {M : Type 1} → statement M
 put_spec =

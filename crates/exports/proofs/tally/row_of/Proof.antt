@@ -8,7 +8,7 @@ use borrow.Author.Rules.{rules}
 use lib.ListN.{length, get_or, replicate, length-replicate, get_or-replicate, drop_of_length-le}
 use lib.Seq.{take_all}
 use Rattle.recognisers.specs.Number.{labels}
-use Rattle.tallies.specs.Tally.{byPlace}
+use Rattle.tallies.specs.Tally.{by_place}
 use Rattle.tallies.proofs.PlaceLaws.{changed, changed-next}
 use Rattle.exports.proofs.tally.row_of.Statement.{statement}
 use Rattle.exports.proofs.tally.row_of.Tie as tie
@@ -20,7 +20,7 @@ abbrev decreases-loop : tie.decreases-loop
 decreases-loop numbers k counts₀ c₀ counts c = labels - c
 
 loop-holds : tie.Need-loop-init invariant-loop decreases-loop
-unfolding byPlace
+unfolding by_place
 loop-holds c = (omega arith, refl)
 
 mul-number-at : tie.Need-overflow-mul-number-at invariant-loop decreases-loop

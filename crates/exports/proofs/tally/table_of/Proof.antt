@@ -8,16 +8,16 @@ use lib.ListN.{length, get_or, drop_of_length-le}
 use lib.Seq.{take_all}
 use Rattle.recognisers.specs.Number.{recognisers, labels}
 use Rattle.tallies.specs.declared.table.TallyRow.{TallyRow}
-use Rattle.tallies.specs.Tally.{rowOfCounts, freshTally, byPlace, gainRow}
+use Rattle.tallies.specs.Tally.{row_of_counts, fresh_tally, by_place, gain_row}
 use Rattle.tallies.proofs.PlaceLaws.{changed, changed-next}
 use Rattle.tallies.proofs.RowLaws.{fresh-shaped}
-use Rattle.exports.specs.Tally.{tallyIn}
+use Rattle.exports.specs.Tally.{tally_in}
 use Rattle.exports.proofs.NumberLaws.{fresh-row}
 use Rattle.exports.proofs.tally.table_of.Statement.{statement}
 use Rattle.exports.proofs.tally.table_of.Tie as tie
 
 abbrev invariant-loop : tie.invariant-loop
-invariant-loop numbers tally₀ k₀ tally k = (k ≤ recognisers) × (tally ≡ changed (λ i row. rowOfCounts (gainRow (λ c. get_or numbers (labels * i + c) 0) row.counts)) k freshTally)
+invariant-loop numbers tally₀ k₀ tally k = (k ≤ recognisers) × (tally ≡ changed (λ i row. row_of_counts (gain_row (λ c. get_or numbers (labels * i + c) 0) row.counts)) k fresh_tally)
 
 abbrev decreases-loop : tie.decreases-loop
 decreases-loop numbers tally₀ k₀ tally k = recognisers - k
@@ -26,7 +26,7 @@ fresh-requires : tie.Need-fresh-requires invariant-loop decreases-loop
 fresh-requires c κs = tt
 
 loop-holds : tie.Need-loop-init invariant-loop decreases-loop
-unfolding byPlace
+unfolding by_place
 loop-holds c = (omega arith, c.fresh.ensures)
 
 row-of-requires : tie.Need-row-of-requires invariant-loop decreases-loop
@@ -49,17 +49,17 @@ loop-again c =
     let at-loop = c.before.before in
     let start = at-loop.before.before.before in
     let k = at-loop.loop.k in
-    let inside : k < length freshTally = omega (arith, fresh-shaped.0) in
-    let change : ℕ → TallyRow → TallyRow = λ i row. rowOfCounts (gainRow (λ c. get_or start.args.numbers.now (labels * i + c) 0) row.counts) in
-    let row : c.row_of.result ≡ change k (get_or freshTally k (rowOfCounts [])) = ap rowOfCounts c.row_of.ensures ∙ rw (fresh-row k (omega arith)) in
-    (omega arith, rw (at-loop.loop.invariant.1, row) (changed-next change freshTally k (rowOfCounts []) inside))
+    let inside : k < length fresh_tally = omega (arith, fresh-shaped.0) in
+    let change : ℕ → TallyRow → TallyRow = λ i row. row_of_counts (gain_row (λ c. get_or start.args.numbers.now (labels * i + c) 0) row.counts) in
+    let row : c.row_of.result ≡ change k (get_or fresh_tally k (row_of_counts [])) = ap row_of_counts c.row_of.ensures ∙ rw (fresh-row k (omega arith)) in
+    (omega arith, rw (at-loop.loop.invariant.1, row) (changed-next change fresh_tally k (row_of_counts []) inside))
 
 returns : tie.Need-returns invariant-loop decreases-loop
-unfolding tallyIn
+unfolding tally_in
 returns c =
     let inv = c.before.loop.invariant in
     let all : c.before.loop.k ≡ recognisers = omega arith in
-    rw (all, take_all recognisers freshTally (omega (arith, fresh-shaped.0)), drop_of_length-le freshTally {i = recognisers} (omega (arith, fresh-shaped.0)), append-nil) at inv.1
+    rw (all, take_all recognisers fresh_tally (omega (arith, fresh-shaped.0)), drop_of_length-le fresh_tally {i = recognisers} (omega (arith, fresh-shaped.0)), append-nil) at inv.1
 
 pub table-of-spec : {M : Type 1} → statement M
 table-of-spec =

@@ -2,7 +2,7 @@
 use mathlib.Core.Path.{ap, ◌∙◌}
 use mathlib.Core.Logic.{⊎_elim}
 use borrow.Author.Rules.{rules}
-use Rattle.recognisers.specs.Refusal.{verdictNumber}
+use Rattle.recognisers.specs.Refusal.{verdict_number}
 use Rattle.terms.specs.declared.layers.Taken.{Taken}
 use Rattle.exports.proofs.MakingLaws.{making, making-refused, making-accepted}
 use Rattle.exports.proofs.term_lists.jcc_terms.Statement.{statement}
@@ -21,7 +21,7 @@ returns c =
     let set = read.before in
     let args = set.before.before.before.before.before.before.before.args in
     let is = making _ _ _ _ args.minutes _ made.make.ensures.0 set.new.ensures read.hours-of.ensures in
-    let number = c.verdict-number.ensures ∙ ap (λ (t : Taken). verdictNumber t.verdict) is in
+    let number = c.verdict-number.ensures ∙ ap (λ (t : Taken). verdict_number t.verdict) is in
     ⊎_elim
     (λ w.
     let left = making-accepted _ _ is args.prices.now args.stamps.now args.sizes.now args.sheet.now args.answers.now w.1.given.1 _ _ (w.10 ∙ w.5.ensures.0) (w.11 ∙ w.5.ensures.1) in

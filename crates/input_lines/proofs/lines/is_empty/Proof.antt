@@ -5,7 +5,7 @@ use native.Mathlib.Omega.{arith}
 use borrow.Author.Tests.{ne_eqb}
 use lib.Dec.{eqb}
 use lib.ListN.{length, length-map, length-take}
-use Rattle.rule_types.specs.Number.{longestLine}
+use Rattle.rule_types.specs.Number.{longest_line}
 use Rattle.input_lines.proofs.lines.is_empty.Statement.{statement}
 use Rattle.input_lines.proofs.lines.is_empty.Tie as tie
 
@@ -16,8 +16,8 @@ none_of (suc n) k h = rw (ne_eqb (suc n) 0 (λ e. omega arith), ne_eqb (min (suc
 returns : tie.Need-returns
 returns c =
     let line = c.before.args.line in
-    let all : length line.bytes ≡ suc longestLine = simp length-map at c.before.well-formed.0.1.1.0.1.0.1 in
-    none_of line.len (suc longestLine) (omega arith) ∙ rw (length-take, all)
+    let all : length line.bytes ≡ suc longest_line = simp length-map at c.before.well-formed.0.1.1.0.1.0.1 in
+    none_of line.len (suc longest_line) (omega arith) ∙ rw (length-take, all)
 
 pub is_empty_spec : {M : Type 1} → statement M
 is_empty_spec = tie.close (tie.spec returns)

@@ -6,7 +6,7 @@ use native.Mathlib.Omega.{arith}
 use borrow.Author.Tests.{eq-eqb, ne_eqb}
 use lib.Dec.{eqb}
 use lib.ListN.{length, drop}
-use Rattle.input_lines.specs.Lines.{pieceEnd}
+use Rattle.input_lines.specs.Lines.{piece_end}
 use Rattle.input_lines.proofs.RunLaws.{run-stop, run-go, run_end}
 use Rattle.input_lines.proofs.lines.piece_end.Statement.{statement}
 use Rattle.input_lines.proofs.lines.piece_end.Tie as tie
@@ -16,7 +16,7 @@ abbrev other : ℕ → ℕ → Bool
 other separator b = not (eqb b separator)
 
 abbrev invariant-loop : tie.invariant-loop
-invariant-loop separator s i₀ i = (i ≤ length s) × (pieceEnd separator s ≡ i + pieceEnd separator (drop i s))
+invariant-loop separator s i₀ i = (i ≤ length s) × (piece_end separator s ≡ i + piece_end separator (drop i s))
 
 abbrev decreases-loop : tie.decreases-loop
 decreases-loop separator s i₀ i = length s - i

@@ -10,12 +10,12 @@ use lib.Seq.{take_all}
 use Rattle.measures.proofs.Overlay.{overlay-none, length-overlay}
 use Rattle.output_lines.specs.Output.{Written}
 use Rattle.output_lines.proofs.OutputLaws.{written_on}
-use Rattle.recognisers.specs.Number.{longestLine}
-use Rattle.input_lines.specs.Lines.{content, keptLine, partialOf}
+use Rattle.recognisers.specs.Number.{longest_line}
+use Rattle.input_lines.specs.Lines.{content, kept_line, partial_of}
 use Rattle.input_lines.proofs.LineLaws.{content-partial}
 use Rattle.input_lines.proofs.PartLaws.{to_end}
 use Rattle.label_lines.specs.declared.session.Session.{Session}
-use Rattle.label_lines.specs.Session.{State, state_of, sessionOf, stateAfter, prints, usedOf}
+use Rattle.label_lines.specs.Session.{State, state_of, session_of, state_after, prints, used_of}
 use Rattle.label_lines.proofs.SessionLaws.{goes_on, rest-stays, used_all, turn-leaves, turn-prints, turn-used, state-session, session-state}
 use Rattle.label_lines.proofs.session.absorb.Statement.{statement}
 use Rattle.label_lines.proofs.session.absorb.Tie as tie
@@ -25,9 +25,9 @@ invariant-loop chunk out₀ room limit session₀ used₀ written₀ out session
     (used ≤ length chunk)
     × (written ≤ length out₀)
     × (length out ≡ length out₀)
-    × (session ≡ sessionOf (stateAfter (state_of session₀) (take used chunk)))
+    × (session ≡ session_of (state_after (state_of session₀) (take used chunk)))
     × Written out₀ 0 (prints (state_of session₀) (take used chunk)) out written
-    × (usedOf (length out₀) (state_of session₀) (take used chunk) ≡ used)
+    × (used_of (length out₀) (state_of session₀) (take used chunk) ≡ used)
 
 abbrev decreases-loop : tie.decreases-loop
 decreases-loop chunk out₀ room limit session₀ used₀ written₀ out session used written = length chunk - used
@@ -45,7 +45,7 @@ extend-requires : tie.Need-extend-requires invariant-loop decreases-loop
 extend-requires c κs = search rules
 
 loop-holds : tie.Need-loop-init invariant-loop decreases-loop
-unfolding stateAfter prints usedOf
+unfolding state_after prints used_of
 loop-holds c =
     let args = c.before.before.before.before.before.before.before.args in
     let st : Session = record { line = c.before.extend.result; held = args.st.held; stopped = args.st.stopped } in
@@ -97,7 +97,7 @@ loop-again c =
     let sure = goes_on loop.used (length chunk) least.least.result loop.written _ loop.session.stopped c.before.before.before.before.before.before.before.if1.true in
     let turn = c.before.before.before.before.advance in
     let did = rw (to_end chunk loop.used) at turn.ensures in
-    let here : state_of loop.session ≡ stateAfter s (take loop.used chunk) = rw inv.3 (state-session _) in
+    let here : state_of loop.session ≡ state_after s (take loop.used chunk) = rw inv.3 (state-session _) in
     let leaves-on = turn-leaves s (state_of loop.session) chunk loop.used turn.result.used here in
     let prints-on = turn-prints s (state_of loop.session) chunk loop.used turn.result.used here in
     let before = prints s (take loop.used chunk) in
@@ -124,15 +124,15 @@ returns c =
     let chunk = args.chunk.now in
     let len = length args.out.now in
     let s = state_of args.st in
-    let all-bytes : length args.st.line.bytes ≡ suc longestLine = simp length-map at start.well-formed.0.1.1.0.1.1.0.1.0.1 in
-    let short : length s.line ≤ suc longestLine = rw length-take (omega arith) in
-    let took : extended.result ≡ partialOf (keptLine (s.line ++ [])) = extended.ensures in
-    let kept : content extended.result ≡ s.line = rw (took, content-partial (keptLine (s.line ++ [])), append-nil) (take_all (suc longestLine) s.line short) in
+    let all-bytes : length args.st.line.bytes ≡ suc longest_line = simp length-map at start.well-formed.0.1.1.0.1.1.0.1.0.1 in
+    let short : length s.line ≤ suc longest_line = rw length-take (omega arith) in
+    let took : extended.result ≡ partial_of (kept_line (s.line ++ [])) = extended.ensures in
+    let kept : content extended.result ≡ s.line = rw (took, content-partial (kept_line (s.line ++ [])), append-nil) (take_all (suc longest_line) s.line short) in
     let inv = rw kept at loop.invariant in
-    let here : state_of loop.session ≡ stateAfter s (take loop.used chunk) = rw inv.3 (state-session _) in
+    let here : state_of loop.session ≡ state_after s (take loop.used chunk) = rw inv.3 (state-session _) in
     let none = rest-stays (state_of loop.session) chunk loop.used least.least.result loop.written len least.least.ensures inv.1 c.if1.false in
     let size : loop.written ≡ length (prints s (take loop.used chunk)) = omega (arith, inv.4.0) in
-    let all : usedOf len s chunk ≡ loop.used = used_all s chunk loop.used len inv.0 inv.5 (rw (here, size) at none) in
+    let all : used_of len s chunk ≡ loop.used = used_all s chunk loop.used len inv.0 inv.5 (rw (here, size) at none) in
     rw all (rw (inv.3, size), (inv.1, inv.4.1))
 
 pub absorb-spec : {M : Type 1} → statement M

@@ -7,7 +7,7 @@ use borrow.Author.Rules.{rules}
 use lib.ListN.{length, take}
 use lib.Seq.{length-take-le}
 use Rattle.measures.proofs.Overlay.{overlay-none}
-use Rattle.input_lines.specs.Lines.{content, keptLine}
+use Rattle.input_lines.specs.Lines.{content, kept_line}
 use Rattle.input_lines.proofs.LineLaws.{content-partial}
 use Rattle.label_lines.specs.Session.{state_of}
 use Rattle.label_lines.proofs.SessionLaws.{line-used, rest-used, line_taken, rest-taken}
@@ -52,7 +52,7 @@ returns c =
     let used = line-used s chunk k pre.0 found.piece-end.ensures.0 inside in
     let taken = line_taken s chunk k pre.0 found.piece-end.ensures.0 (length args.out.now - args.at) (omega (arith, pre.2)) inside in
     let line = extended.extend.ensures in
-    let says : content extended.extend.result ≡ keptLine (content args.st.line ++ take k chunk) = rw line (content-partial _) in
+    let says : content extended.extend.result ≡ kept_line (content args.st.line ++ take k chunk) = rw line (content-partial _) in
     let did = rw says at stepped in
     ((omega arith, omega (arith, inside), taken), (rw (used.0, c.begin.ensures, did.0, did.1), (did.2, rw used.1 did.3)))
 

@@ -8,7 +8,7 @@ use lib.Dec.{leb}
 use lib.ListN.{length}
 use Rattle.measures.proofs.Overlay.{overlay-none}
 use Rattle.input_lines.proofs.RunLaws.{both}
-use Rattle.output_lines.specs.Output.{lineRoom}
+use Rattle.output_lines.specs.Output.{line_room}
 use Rattle.label_lines.specs.Session.{state_of}
 use Rattle.label_lines.proofs.SessionLaws.{end-prints, end_quiet}
 use Rattle.label_lines.proofs.session.end.Statement.{statement}
@@ -18,7 +18,7 @@ step-requires : tie.Need-step-requires
 step-requires c κs =
     let args = c.before.before.before.before.before.before.before.args in
     let sure = both _ _ (both _ _ c.before.if1.true).0 in
-    omega (arith, leb-true lineRoom (length args.out.now) sure.0)
+    omega (arith, leb-true line_room (length args.out.now) sure.0)
 
 same_length : tie.Need-same-length
 same_length c = search rules
@@ -32,8 +32,8 @@ returns c =
     let some = sym tested.is-empty.ensures ∙ not-true tested.is-empty.result all.1 in
     let is = end-prints (state_of args.st) (not-true args.st.stopped sure.1) some in
     let did = c.before.before.step.ensures in
-    let room : leb lineRoom (length args.out.now) ≡ true = sure.0 in
-    (rw (room, is) did.3, omega (arith, did.2, leb-true lineRoom (length args.out.now) room))
+    let room : leb line_room (length args.out.now) ≡ true = sure.0 in
+    (rw (room, is) did.3, omega (arith, did.2, leb-true line_room (length args.out.now) room))
 
 returns-2 : tie.Need-returns-2
 returns-2 c =

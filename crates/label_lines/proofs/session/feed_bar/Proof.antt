@@ -2,8 +2,8 @@
 use mathlib.Core.Path.{refl}
 use native.Mathlib.Omega.{arith}
 use borrow.Author.Rules.{rules}
-use Rattle.measures.specs.Bar.{pricesOf, putBar}
-use Rattle.output_lines.specs.Output.{longestRefusal, lineRoom}
+use Rattle.measures.specs.Bar.{prices_of, put_bar}
+use Rattle.output_lines.specs.Output.{longest_refusal, line_room}
 use Rattle.output_lines.proofs.OutputLaws.{written}
 use Rattle.label_lines.proofs.SessionLaws.{fed-refused, fed-left, fed-accepted}
 use Rattle.label_lines.proofs.session.feed_bar.Statement.{statement}
@@ -46,7 +46,7 @@ same_length : tie.Need-same-length
 same_length c = search rules
 
 returns : tie.Need-returns
-unfolding putBar pricesOf
+unfolding put_bar prices_of
 returns c =
     let refused = c.before.before in
     let verdict = refused.before.before.before in
@@ -58,13 +58,13 @@ returns c =
     let law = fed-refused args.held args.bar fed.feed.result is.0 _ denied in
     let left = fed-left args.held args.bar fed.feed.result is.0 _ denied in
     let wrote = refused.print-refusal.ensures in
-    rw law (left, refl, omega (arith, wrote.1), written longestRefusal _ args.out.now args.at _ _ (omega arith) wrote.0)
+    rw law (left, refl, omega (arith, wrote.1), written longest_refusal _ args.out.now args.at _ _ (omega arith) wrote.0)
 
 same-length-2 : tie.Need-same-length-2
 same-length-2 c = search rules
 
 returns-2 : tie.Need-returns-2
-unfolding putBar pricesOf
+unfolding put_bar prices_of
 returns-2 c =
     let rows = c.before.before in
     let told = rows.before.before in
@@ -74,7 +74,7 @@ returns-2 c =
     let is = rw put.put-bar.ensures at fed.feed.ensures in
     let law = fed-accepted args.held args.bar fed.feed.result is.0 told.enum_told.given.1 in
     let wrote = rows.print-rows.ensures in
-    rw (law, ← is.1.0) (refl, refl, wrote.1, written lineRoom _ args.out.now args.at _ _ (omega arith) wrote.0)
+    rw (law, ← is.1.0) (refl, refl, wrote.1, written line_room _ args.out.now args.at _ _ (omega arith) wrote.0)
 
 pub feed-bar-spec : {M : Type 1} → statement M
 feed-bar-spec =

@@ -2,7 +2,7 @@
 use mathlib.Core.Path.{refl}
 use native.Mathlib.Omega.{arith}
 use borrow.Author.Rules.{rules}
-use Rattle.output_lines.specs.Output.{longestRefusal}
+use Rattle.output_lines.specs.Output.{longest_refusal}
 use Rattle.output_lines.proofs.OutputLaws.{written}
 use Rattle.label_lines.proofs.session.refuse.Statement.{statement}
 use Rattle.label_lines.proofs.session.refuse.Tie as tie
@@ -24,7 +24,7 @@ returns c =
     let call = c.before.before in
     let args = call.before.before.before.before.args in
     let wrote = call.print-refusal.ensures in
-    (refl, refl, omega (arith, wrote.1), written longestRefusal _ args.out.now args.at _ _ (omega arith) wrote.0)
+    (refl, refl, omega (arith, wrote.1), written longest_refusal _ args.out.now args.at _ _ (omega arith) wrote.0)
 
 pub refuse-spec : {M : Type 1} → statement M
 refuse-spec = tie.close (tie.spec cast-ordinal add-ordinal print-refusal-requires same_length returns)

@@ -1,7 +1,7 @@
 -- Each answer of the reader is a case of readStep. Assumes nothing.
 use mathlib.Core.Path.{sym, ◌∙◌}
 use borrow.Author.Rules.{rules}
-use Rattle.label_lines.specs.Output.{lineStep}
+use Rattle.label_lines.specs.Output.{line_step}
 use Rattle.label_lines.proofs.session.step.Statement.{statement}
 use Rattle.label_lines.proofs.session.step.Tie as tie
 
@@ -30,7 +30,7 @@ same_length : tie.Need-same-length
 same_length c = search rules
 
 returns : tie.Need-returns
-unfolding lineStep
+unfolding line_step
 returns c =
     let says = sym c.before.before.before.before.before.before.before.read-partial.ensures.0 ∙ c.before.before.before.before.before.bar.given.1 in
     rw says c.before.before.feed-bar.ensures
@@ -39,7 +39,7 @@ same-length-2 : tie.Need-same-length-2
 same-length-2 c = search rules
 
 returns-2 : tie.Need-returns-2
-unfolding lineStep
+unfolding line_step
 returns-2 c =
     let says = sym c.before.before.before.before.before.before.read-partial.ensures.0 ∙ c.before.before.before.before.enum_told.given.1 in
     rw says c.before.before.refuse.ensures
@@ -48,7 +48,7 @@ same-length-3 : tie.Need-same-length-3
 same-length-3 c = search rules
 
 returns-3 : tie.Need-returns-3
-unfolding lineStep
+unfolding line_step
 returns-3 c =
     let says = sym c.before.before.before.before.before.before.before.read-partial.ensures.0 ∙ c.before.before.before.before.before.place.given.1 in
     rw says c.before.before.refuse2.ensures

@@ -4,13 +4,13 @@ use mathlib.Core.Path.{◌≡◌, sym, ◌∙◌}
 use native.Mathlib.Omega.{arith}
 use lib.ListN.{drop}
 use Rattle.rule_types.specs.Number.{labels}
-use Rattle.label_texts.specs.LabelText.{labelTexts, place_in, codeOfBytes}
+use Rattle.label_texts.specs.LabelText.{texts_of_labels, place_in, code_of_bytes}
 use Rattle.label_texts.proofs.LabelLaws.{place_here, place-on}
 use Rattle.label_texts.proofs.label_text.code_of_bytes.Statement.{statement}
 use Rattle.label_texts.proofs.label_text.code_of_bytes.Tie as tie
 
 abbrev invariant-loop : tie.invariant-loop
-invariant-loop s code₀ code = (code ≤ labels) × (codeOfBytes s ≡ code + place_in (drop code labelTexts) s)
+invariant-loop s code₀ code = (code ≤ labels) × (code_of_bytes s ≡ code + place_in (drop code texts_of_labels) s)
 
 abbrev decreases-loop : tie.decreases-loop
 decreases-loop s code₀ code = labels - code
@@ -25,7 +25,7 @@ returns : tie.Need-returns invariant-loop decreases-loop
 returns c =
     let d = c.before in
     let l = d.before.before.loop in
-    omega (arith, place_here labelTexts d.before.before.before.before.args.s.now l.code (omega arith) (sym d.is-label.ensures ∙ c.if1.true))
+    omega (arith, place_here texts_of_labels d.before.before.before.before.args.s.now l.code (omega arith) (sym d.is-label.ensures ∙ c.if1.true))
 
 add-code : tie.Need-overflow-add-code invariant-loop decreases-loop
 add-code c = omega arith
@@ -37,7 +37,7 @@ loop-again : tie.Need-loop-preserved invariant-loop decreases-loop
 loop-again c =
     let d = c.before in
     let l = d.before.before.loop in
-    omega (arith, place-on labelTexts d.before.before.before.before.args.s.now l.code (omega arith) (sym d.is-label.ensures ∙ c.if1.false))
+    omega (arith, place-on texts_of_labels d.before.before.before.before.args.s.now l.code (omega arith) (sym d.is-label.ensures ∙ c.if1.false))
 
 returns-2 : tie.Need-returns-2 invariant-loop decreases-loop
 unfolding place_in

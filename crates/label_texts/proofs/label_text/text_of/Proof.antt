@@ -4,7 +4,7 @@ use mathlib.Core.List.{List, [], ◌++◌}
 use borrow.Author.Rules.{rules}
 use lib.ListN.{length, replicate}
 use Rattle.label_texts.specs.declared.label_text.Text.{Text}
-use Rattle.label_texts.specs.LabelText.{labelTexts, mostBytes, text_of}
+use Rattle.label_texts.specs.LabelText.{texts_of_labels, most_bytes, text_of}
 use Rattle.rule_types.proofs.ListLaws.{get_d_map}
 use Rattle.label_texts.proofs.LabelLaws.{no_bytes}
 use Rattle.label_texts.proofs.label_text.text_of.Statement.{statement}
@@ -18,16 +18,16 @@ array-copy-out-result c = search rules
 
 -- as in text_of
 abbrev filled : List ℕ → Text
-filled s = record { bytes = s ++ replicate (mostBytes - length s) 0; len = length s }
+filled s = record { bytes = s ++ replicate (most_bytes - length s) 0; len = length s }
 
 returns : tie.Need-returns
 unfolding text_of
-returns c = get_d_map filled labelTexts c.before.before.args.code [] _ c.before.if1.true
+returns c = get_d_map filled texts_of_labels c.before.before.args.code [] _ c.before.if1.true
 
 returns-2 : tie.Need-returns-2
 unfolding text_of
 returns-2 c =
-    let out : length labelTexts ≤ c.before.args.code = c.if1.false in
+    let out : length texts_of_labels ≤ c.before.args.code = c.if1.false in
     rw (no_bytes c.before.args.code out)
 
 pub text-of-spec : {M : Type 1} → statement M

@@ -1,15 +1,15 @@
 -- The loop's invariant: what is left to fold, from what was found so far, gives what the whole column gives. Assumes nothing.
 use Rattle.std.proofs.Common.{◌≡◌, ◌-◌, ◌≤◌, length, drop, sym, refl, ◌∙◌, arith}
 use mathlib.Core.List.{foldl}
-use Rattle.prices.specs.Bar.{barsOf}
-use Rattle.measures.specs.Fold.{foldStep, columnOf}
+use Rattle.prices.specs.Bar.{bars_of}
+use Rattle.measures.specs.Fold.{fold_step, column_of}
 use Rattle.measures.proofs.FoldLaws.{turn, turned}
 use Rattle.measures.proofs.folds.fold_column.Statement.{statement}
 use Rattle.measures.proofs.folds.fold_column.Tie as tie
 
 abbrev invariant-loop : tie.invariant-loop
 invariant-loop prices c f start n x₀ i₀ x i =
-    (i ≤ n) × (n ≡ length (barsOf prices)) × (foldl (foldStep f) x (columnOf c (drop i (barsOf prices))) ≡ foldl (foldStep f) start (columnOf c (barsOf prices)))
+    (i ≤ n) × (n ≡ length (bars_of prices)) × (foldl (fold_step f) x (column_of c (drop i (bars_of prices))) ≡ foldl (fold_step f) start (column_of c (bars_of prices)))
 
 abbrev decreases-loop : tie.decreases-loop
 decreases-loop prices c f start n x₀ i₀ x i = n - i
@@ -30,16 +30,16 @@ loop-again : tie.Need-loop-preserved invariant-loop decreases-loop
 loop-again c =
     let at-loop = c.before.before.before.before in
     let args = at-loop.before.before.before.args in
-    let bars = barsOf args.prices.now in
+    let bars = bars_of args.prices.now in
     let now = at-loop.loop in
-    (omega arith, now.invariant.1, simp (c.step.ensures, c.before.price-in.ensures, c.before.before.bar-at.ensures) (turn (foldStep args.f) args.c bars now.i now.x (omega arith) ∙ now.invariant.2))
+    (omega arith, now.invariant.1, simp (c.step.ensures, c.before.price-in.ensures, c.before.before.bar-at.ensures) (turn (fold_step args.f) args.c bars now.i now.x (omega arith) ∙ now.invariant.2))
 
 returns : tie.Need-returns invariant-loop decreases-loop
 returns c =
     let at-loop = c.before in
     let args = at-loop.before.before.before.args in
     let now = at-loop.loop in
-    sym (turned (foldStep args.f) args.c (barsOf args.prices.now) now.i now.x (omega arith)) ∙ now.invariant.2
+    sym (turned (fold_step args.f) args.c (bars_of args.prices.now) now.i now.x (omega arith)) ∙ now.invariant.2
 
 pub fold-column-spec : {M : Type 1} → statement M
 fold-column-spec =

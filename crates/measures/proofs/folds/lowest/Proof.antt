@@ -1,10 +1,10 @@
 -- The code is the definition.
-use Rattle.measures.specs.Fold.{lowestOf}
+use Rattle.measures.specs.Fold.{lowest_of}
 use Rattle.measures.proofs.folds.lowest.Statement.{statement}
 use Rattle.measures.proofs.folds.lowest.Tie as tie
 
 returns : tie.Need-returns
-unfolding lowestOf
+unfolding lowest_of
 returns c = simp (c.fold-column.ensures, c.before.plus-infinity.ensures)
 
 pub lowest-spec : {M : Type 1} → statement M

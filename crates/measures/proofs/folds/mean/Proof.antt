@@ -1,10 +1,10 @@
 -- The code is the definition.
-use Rattle.measures.specs.Fold.{meanOf, sum_of}
+use Rattle.measures.specs.Fold.{mean_of, sum_of}
 use Rattle.measures.proofs.folds.mean.Statement.{statement}
 use Rattle.measures.proofs.folds.mean.Tie as tie
 
 returns : tie.Need-returns
-unfolding meanOf sum_of
+unfolding mean_of sum_of
 returns c = simp (c.size.ensures, c.before.fold-column.ensures)
 
 pub mean-spec : {M : Type 1} → statement M

@@ -1,4 +1,4 @@
--- Each arm of the match is a case of foldStep.
+-- Each arm of the match is a case of fold_step.
 use Rattle.std.proofs.Common.{rules}
 use Rattle.measures.proofs.folds.step.Statement.{statement}
 use Rattle.measures.proofs.folds.step.Tie as tie

@@ -1,5 +1,5 @@
 -- The code is the definition.
-use Rattle.windows.specs.Window.{backOf}
+use Rattle.windows.specs.Window.{back_of}
 use Rattle.std.proofs.Common.{rules}
 use Rattle.measures.proofs.runs.back.Statement.{statement}
 use Rattle.measures.proofs.runs.back.Tie as tie
@@ -8,7 +8,7 @@ sub-bar-or-none : tie.Need-overflow-sub-bar-or-none
 sub-bar-or-none c = search rules
 
 returns : tie.Need-returns
-unfolding backOf
+unfolding back_of
 returns c =
     simp (
       c.bar-or-none.ensures,

@@ -1,7 +1,7 @@
 -- Past the end getD gives the default.
 use Rattle.std.proofs.Common.{◌≤◌, length, sym, ◌∙◌, arith, rules}
 use lib.ListN.{get_or-eq_default}
-use Rattle.prices.specs.Bar.{barsOf, noBar}
+use Rattle.prices.specs.Bar.{bars_of, no_bar}
 use Rattle.measures.proofs.runs.bar_or_none.Statement.{statement}
 use Rattle.measures.proofs.runs.bar_or_none.Tie as tie
 
@@ -20,8 +20,8 @@ returns c = search rules
 returns-2 : tie.Need-returns-2
 returns-2 c =
     let start = c.before.before.before.before in
-    let h : length (barsOf start.args.prices.now) ≤ start.args.i = omega arith in
-    c.no-bar.ensures ∙ sym (get_or-eq_default (barsOf start.args.prices.now) noBar h)
+    let h : length (bars_of start.args.prices.now) ≤ start.args.i = omega arith in
+    c.no-bar.ensures ∙ sym (get_or-eq_default (bars_of start.args.prices.now) no_bar h)
 
 pub bar-or-none-spec : {M : Type 1} → statement M
 bar-or-none-spec =

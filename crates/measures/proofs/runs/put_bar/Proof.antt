@@ -1,6 +1,6 @@
 -- Four prices one after the other, or none. Assumes nothing.
 use Rattle.std.proofs.Common.{◌*◌, arith, length-set, rules, le-ltb, lt-ltb}
-use Rattle.prices.specs.Bar.{pricesOf, putBar}
+use Rattle.prices.specs.Bar.{prices_of, put_bar}
 use Rattle.measures.proofs.Overlay.{overlay-four}
 use Rattle.measures.proofs.runs.put_bar.Statement.{statement}
 use Rattle.measures.proofs.runs.put_bar.Tie as tie
@@ -45,14 +45,14 @@ same_length : tie.Need-same-length
 same_length c = search rules
 
 returns : tie.Need-returns
-unfolding putBar pricesOf
+unfolding put_bar prices_of
 returns c =
     let args = c.before.args in
     let b = args.bar in
     rw (lt-ltb _ _ c.if1.true) (overlay-four args.out.now (4 * args.i) b.«open» b.close b.high b.low (omega arith))
 
 returns-2 : tie.Need-returns-2
-unfolding putBar
+unfolding put_bar
 returns-2 c = simp (le-ltb _ _ c.if1.false)
 
 pub put-bar-spec : {M : Type 1} → statement M

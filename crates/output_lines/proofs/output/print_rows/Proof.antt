@@ -6,8 +6,8 @@ use borrow.Author.Rules.{rules}
 use lib.ListN.{length, get_or, drop, length-append}
 use Rattle.measures.specs.Bar.{overlay}
 use Rattle.measures.proofs.Overlay.{overlay-none}
-use Rattle.recognisers.specs.Number.{recognisers, rowBytes}
-use Rattle.output_lines.specs.Output.{pairLine, row_lines, longestRow, lineRoom, Written}
+use Rattle.recognisers.specs.Number.{recognisers, row_bytes}
+use Rattle.output_lines.specs.Output.{pair_line, row_lines, longest_row, line_room, Written}
 use Rattle.output_lines.proofs.OutputLaws.{written_on, pair-most, rows-most, rows_end, rows_next, printed, unprinted}
 use Rattle.output_lines.proofs.output.print_rows.Statement.{statement}
 use Rattle.output_lines.proofs.output.print_rows.Tie as tie
@@ -15,7 +15,7 @@ use Rattle.output_lines.proofs.output.print_rows.Tie as tie
 abbrev invariant-loop : tie.invariant-loop
 invariant-loop ordinal out₀ at sheet left k₀ place₀ out k place =
     let rest = row_lines ordinal k (drop (2 * k) sheet) in
-    (k ≤ recognisers) × (length out ≡ length out₀) × (place ≤ at + longestRow * k) × Written out₀ at (row_lines ordinal 0 sheet) (overlay out place rest) (place + length rest)
+    (k ≤ recognisers) × (length out ≡ length out₀) × (place ≤ at + longest_row * k) × Written out₀ at (row_lines ordinal 0 sheet) (overlay out place rest) (place + length rest)
 
 abbrev decreases-loop : tie.decreases-loop
 decreases-loop ordinal out₀ at sheet left k₀ place₀ out k place = recognisers - k
@@ -29,7 +29,7 @@ sub-left c = search rules
 returns : tie.Need-returns invariant-loop decreases-loop
 returns c =
     let args = c.before.before.before.args in
-    (unprinted lineRoom (row_lines args.ordinal 0 args.t2) args.out.now args.at (omega arith), omega arith)
+    (unprinted line_room (row_lines args.ordinal 0 args.t2) args.out.now args.at (omega arith), omega arith)
 
 loop-holds : tie.Need-loop-init invariant-loop decreases-loop
 loop-holds c = (omega arith, refl, omega arith, (refl, refl))
@@ -67,11 +67,11 @@ loop-again c =
     let args = start.args in
     let ordinal = args.ordinal in
     let sheet = args.t2 in
-    let size : length sheet ≡ rowBytes = start.well-formed.1.0.1.0.1 in
+    let size : length sheet ≡ row_bytes = start.well-formed.1.0.1.0.1 in
     let out = at-loop.loop.out in
     let k = at-loop.loop.k in
     let place = at-loop.loop.place in
-    let line = pairLine ordinal k (get_or sheet (2 * k) 0) (get_or sheet (2 * k + 1) 0) in
+    let line = pair_line ordinal k (get_or sheet (2 * k) 0) (get_or sheet (2 * k + 1) 0) in
     let rest = row_lines ordinal (k + 1) (drop (2 * (k + 1)) sheet) in
     let whole = rw (rows_next ordinal k sheet (omega (arith, size))) at inv.3 in
     let both = length-append line rest in
@@ -91,9 +91,9 @@ returns-2 c =
     let at-loop = c.before in
     let start = at-loop.before.before.before.before in
     let args = start.args in
-    let size : length args.t2 ≡ rowBytes = start.well-formed.1.0.1.0.1 in
+    let size : length args.t2 ≡ row_bytes = start.well-formed.1.0.1.0.1 in
     let whole = rw (rows_end args.ordinal at-loop.loop.k args.t2 (omega (arith, size))) at at-loop.loop.invariant.3 in
-    (printed lineRoom _ args.out.now _ _ _ (omega arith) (omega (arith, whole.0), sym (overlay-none at-loop.loop.out at-loop.loop.place) ∙ whole.1), omega arith)
+    (printed line_room _ args.out.now _ _ _ (omega arith) (omega (arith, whole.0), sym (overlay-none at-loop.loop.out at-loop.loop.place) ∙ whole.1), omega arith)
 
 pub print-rows-spec : {M : Type 1} → statement M
 print-rows-spec =

@@ -6,7 +6,7 @@ use borrow.Author.Rules.{rules}
 use borrow.Author.Tests.{eq-eqb, ne_eqb}
 use Rattle.measures.proofs.Overlay.{overlay-none}
 use Rattle.label_texts.specs.LabelText.{bytes_of}
-use Rattle.input_lines.specs.Lines.{lineFeed, comma}
+use Rattle.input_lines.specs.Lines.{line_feed, comma}
 use Rattle.output_lines.specs.Output.{numeral, field, row_line}
 use Rattle.output_lines.proofs.OutputLaws.{number-most, label-most, written_on}
 use Rattle.output_lines.proofs.output.write_pair.Statement.{statement}
@@ -49,11 +49,11 @@ returns-2 c =
     let x = field (numeral args.ordinal) comma in
     let y = field (numeral args.k) comma in
     let z = field (bytes_of args.v1) comma in
-    let w = field (bytes_of args.v2) lineFeed in
+    let w = field (bytes_of args.v2) line_feed in
     let x-most = number-most args.ordinal comma in
     let y-most = number-most args.k comma in
     let z-most = label-most args.v1 comma in
-    let w-most = label-most args.v2 lineFeed in
+    let w-most = label-most args.v2 line_feed in
     let two = written_on s _ x _ _ y _ _ (omega (arith, x-most, y-most)) first.write-number.ensures second.write-number2.ensures in
     let three = written_on s _ (x ++ y) _ _ z _ _ (omega (arith, x-most, y-most, z-most)) two third.write-label.ensures in
     rw (ne_eqb _ _ else.if1.false) (written_on s _ (x ++ y ++ z) _ _ w _ _ (omega (arith, x-most, y-most, z-most, w-most)) three fourth.write-label2.ensures)

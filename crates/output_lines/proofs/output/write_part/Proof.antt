@@ -2,9 +2,9 @@
 use mathlib.Core.List.{◌++◌}
 use native.Mathlib.Omega.{arith}
 use borrow.Author.Rules.{rules}
-use Rattle.recognisers.specs.Refusal.{refusalNumber}
+use Rattle.recognisers.specs.Refusal.{refusal_number}
 use Rattle.input_lines.specs.Lines.{comma}
-use Rattle.output_lines.specs.Output.{numeral, field, refusedWord, refusalPart}
+use Rattle.output_lines.specs.Output.{numeral, field, refused_word, refusal_part}
 use Rattle.output_lines.proofs.OutputLaws.{number-most, written_on}
 use Rattle.output_lines.proofs.output.write_part.Statement.{statement}
 use Rattle.output_lines.proofs.output.write_part.Tie as tie
@@ -31,18 +31,18 @@ same_length : tie.Need-same-length
 same_length c = search rules
 
 returns : tie.Need-returns
-unfolding refusalPart
+unfolding refusal_part
 returns c =
     let third = c.before.before in
     let second = third.before.before.before.before.before in
     let first = second.before.before.before.before in
     let args = first.before.before.before.before.before.before.args in
     let s = args.out.now in
-    let x = field refusedWord comma in
+    let x = field refused_word comma in
     let y = field (numeral args.ordinal) comma in
-    let z = field (numeral (refusalNumber args.why)) args.end in
+    let z = field (numeral (refusal_number args.why)) args.end in
     let y-most = number-most args.ordinal comma in
-    let z-most = number-most (refusalNumber args.why) args.end in
+    let z-most = number-most (refusal_number args.why) args.end in
     let last = rw third.before.before.refusal-number.ensures at third.write-number2.ensures in
     let two = written_on s _ x _ _ y _ _ (omega (arith, y-most)) first.write-field.ensures second.write-number.ensures in
     let all = written_on s _ (x ++ y) _ _ z _ _ (omega (arith, y-most, z-most)) two last in

@@ -2,7 +2,7 @@
 use mathlib.Core.Path.{◌≡◌, refl, sym, ◌∙◌}
 use mathlib.Core.Bool.{Bool, true, false, cond}
 use borrow.Author.Rules.{rules}
-use Rattle.tallies.specs.Feed.{lent, talliedSheet}
+use Rattle.tallies.specs.Feed.{lent, tallied_sheet}
 use Rattle.tallies.proofs.FeedLaws.{with-test, tallied-refused}
 use Rattle.part_feeds.proofs.parts.feed_parts.Statement.{statement}
 use Rattle.part_feeds.proofs.parts.feed_parts.Tie as tie
@@ -28,7 +28,7 @@ take-parts-requires c κs =
     (sym (with-test args.b args.tally (lent args.prices.now args.sheet.now) _ _ call.before.is_right.ensures call.tally-verdict.ensures.0) ∙ told.enum_told.given.1, call.tally-verdict.ensures.1)
 
 returns : tie.Need-returns
-unfolding talliedSheet
+unfolding tallied_sheet
 returns c =
     let call = c.before.before.before in
     let args = call.before.before.before.before.before.before.args in

@@ -10,21 +10,21 @@ use borrow.Author.Rules.{rules}
 use borrow.Author.Tests.{le-ltb}
 use lib.ListN.{length, length-map, take}
 use lib.Seq.{take_all}
-use Rattle.measures.specs.Bar.{barsOf, overlay}
+use Rattle.measures.specs.Bar.{bars_of, overlay}
 use Rattle.measures.proofs.RunLaws.{length-bars}
 use Rattle.measures.proofs.Overlay.{overlay-none}
-use Rattle.recognisers.specs.Number.{places, rowBytes}
+use Rattle.recognisers.specs.Number.{places, row_bytes}
 use Rattle.answers.specs.declared.refusals.Verdict.TheVariants.{Accepted}
 use Rattle.box_record.specs.declared.boxes.Outcome.{Outcome}
 use Rattle.bar_box.specs.Sheet.{rows_of}
-use Rattle.bar_box.specs.Box.{takenIn}
+use Rattle.bar_box.specs.Box.{taken_in}
 use Rattle.bar_box.proofs.BoxLaws.{taken_none}
 use Rattle.bar_box.proofs.FeedSteps.{fits}
 use Rattle.bar_box.proofs.PartLaws.{rows_from, fed-sheet}
 use Rattle.tallies.specs.declared.table.TallyRow.{TallyRow}
 use Rattle.tallies.specs.declared.feeds.Tallied.{Tallied}
 use Rattle.tallies.specs.Tally.{counted}
-use Rattle.tallies.specs.Feed.{lent, talliedSheet}
+use Rattle.tallies.specs.Feed.{lent, tallied_sheet}
 use Rattle.tallies.proofs.FeedLaws.{accepted-plain, tallied-accepted}
 use Rattle.tallies.proofs.RowLaws.{none-counted}
 use Rattle.part_feeds.proofs.PartLaws.{length-written, next-box, next-sheet, next-tallied, next-tallied-sheet}
@@ -41,7 +41,7 @@ same false x = refl
 
 abbrev invariant-loop : tie.invariant-loop
 invariant-loop counts sizes prices sheet₀ total out₀ table₀ done₀ i₀ sheet out table done i = (done ≤ total) × (i ≤ length sizes + 1) × (length sizes < i → done ≡ total) × (length sheet ≡ length sheet₀)
-    × (out.after ≡ takenIn out₀.after (take done (barsOf prices))) × (table ≡ brought counts (rows_from out₀.after (take done (barsOf prices))) table₀) × (sheet ≡ overlay sheet₀ 0 (rows_from out₀.after (take done (barsOf prices))))
+    × (out.after ≡ taken_in out₀.after (take done (bars_of prices))) × (table ≡ brought counts (rows_from out₀.after (take done (bars_of prices))) table₀) × (sheet ≡ overlay sheet₀ 0 (rows_from out₀.after (take done (bars_of prices))))
 
 abbrev decreases-loop : tie.decreases-loop
 decreases-loop counts sizes prices sheet₀ total out₀ table₀ done₀ i₀ sheet out table done i = length sizes + 1 - i
@@ -50,7 +50,7 @@ abbrev start_of : tie.After-count invariant-loop decreases-loop → tie.Start in
 start_of c = c.before.before.before.before
 
 -- the sheet has room for the rows
-room : (c : tie.After-count invariant-loop decreases-loop) → let args = (start_of c).args in rowBytes * c.count.result ≤ length args.sheet.now
+room : (c : tie.After-count invariant-loop decreases-loop) → let args = (start_of c).args in row_bytes * c.count.result ≤ length args.sheet.now
 room c =
     let args = (start_of c).args in
     omega (arith, c.count.ensures, length-bars args.prices.now, (fits _ _ _ _ _ (accepted-plain args.b args.tally (lent args.prices.now args.sheet.now) (start_of c).requires.0)).room)
@@ -140,17 +140,17 @@ loop-again c =
     let s = at-loop.loop.sheet in
     let n = part.part-size.result in
     let passed = at-loop.loop.done in
-    let enough : passed + n ≤ length (barsOf args.prices.now) = omega (arith, part.part-size.ensures.1, counted-all.count.ensures, inv.0) in
+    let enough : passed + n ≤ length (bars_of args.prices.now) = omega (arith, part.part-size.ensures.1, counted-all.count.ensures, inv.0) in
     let all : length args.b.bars ≡ places = simp length-map at start.good.0.1.1.1.1.1.0.1.0.1 in
     let e = start.pre.0 in
     let shaped = start.pre.1 in
-    let bars = barsOf args.prices.now in
+    let bars = bars_of args.prices.now in
     let fed-now = rows_from args.b (take (passed + n) bars) in
     let same_size = length-written args.b bars args.sheet.now (passed + n) (omega (arith, room counted-all, counted-all.count.ensures)) in
     ⊎_elim
     (λ w.
     let table = inv.5 ∙ ap (λ (x : Bool). brought x (rows_from args.b (take passed bars)) args.tally) w.0.taken in
-    let next : w.1.result ≡ record { verdict = Accepted; after = takenIn args.b (take (passed + n) bars); tally = counted fed-now args.tally } = w.1.ensures.0 ∙ rw (inv.4, table) (next-tallied args.b all args.tally args.prices.now args.sheet.now s e passed n enough inv.3 inv.6 shaped) in
+    let next : w.1.result ≡ record { verdict = Accepted; after = taken_in args.b (take (passed + n) bars); tally = counted fed-now args.tally } = w.1.ensures.0 ∙ rw (inv.4, table) (next-tallied args.b all args.tally args.prices.now args.sheet.now s e passed n enough inv.3 inv.6 shaped) in
     let sheet : c.if1.sheet ≡ overlay args.sheet.now 0 fed-now = w.6 ∙ rw (w.1.ensures.1, inv.4, table) (next-tallied-sheet args.b all args.tally args.prices.now args.sheet.now s e passed n enough inv.3 inv.6 shaped) in (
       omega (arith, part.part-size.ensures.1),
       omega arith,
@@ -176,13 +176,13 @@ same_length : tie.Need-same-length invariant-loop decreases-loop
 same_length c = search rules
 
 returns : tie.Need-returns invariant-loop decreases-loop
-unfolding talliedSheet
+unfolding tallied_sheet
 returns c =
     let at-loop = c.before.before in
     let args = (start_of at-loop.before).args in
     let inv = at-loop.loop.invariant in
     let f = lent args.prices.now args.sheet.now in
-    let bars = barsOf args.prices.now in
+    let bars = bars_of args.prices.now in
     let e = (start_of at-loop.before).pre.0 in
     let done = inv.2 c.before.loop-test.false in
     let whole = take_all at-loop.loop.done bars (omega (arith, at-loop.before.count.ensures)) in

@@ -3,13 +3,13 @@ use Prim.Native.Nat.{◌<◌, ◌^◌, ◌≤◌, ◌-◌}
 use mathlib.Core.Path.{◌≡◌, refl}
 use native.Mathlib.Omega.{arith}
 use lib.ListN.{drop_of_length-le, length, drop}
-use Rattle.price_texts.specs.PriceText.{digitsIn, decimal}
+use Rattle.price_texts.specs.PriceText.{digits_in, decimal}
 use Rattle.price_texts.proofs.DigitLaws.{OneMore, one_more, decimal-small}
 use Rattle.price_texts.proofs.price_text.decimal_of.Statement.{statement}
 use Rattle.price_texts.proofs.price_text.decimal_of.Tie as tie
 
 abbrev invariant-loop : tie.invariant-loop
-invariant-loop n s sum₀ i₀ sum i = (i ≤ length s) × (decimal sum (drop i s) ≡ decimal n s) × (digitsIn (drop i s) ≡ length (drop i s))
+invariant-loop n s sum₀ i₀ sum i = (i ≤ length s) × (decimal sum (drop i s) ≡ decimal n s) × (digits_in (drop i s) ≡ length (drop i s))
 
 abbrev decreases-loop : tie.decreases-loop
 decreases-loop n s sum₀ i₀ sum i = length s - i

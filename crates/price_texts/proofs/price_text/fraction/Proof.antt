@@ -4,7 +4,7 @@ use mathlib.Core.Path.{sym, ◌∙◌, refl}
 use native.Mathlib.Omega.{arith}
 use borrow.Author.Tests.{eq-eqb, ne_eqb, le-leb, lt-leb}
 use borrow.Author.Rules.{rules}
-use Rattle.price_texts.specs.PriceText.{fractionOf}
+use Rattle.price_texts.specs.PriceText.{fraction_of}
 use Rattle.price_texts.proofs.DigitLaws.{decimal-small}
 use Rattle.price_texts.proofs.price_text.fraction.Statement.{statement}
 use Rattle.price_texts.proofs.price_text.fraction.Tie as tie
@@ -13,18 +13,18 @@ digits-in-requires : tie.Need-digits-in-requires
 digits-in-requires c κs = search rules
 
 returns : tie.Need-returns
-unfolding fractionOf
+unfolding fraction_of
 returns c = rw (← c.before.digits_in.ensures.0, ne_eqb _ _ c.if1.true)
 
 returns-2 : tie.Need-returns-2
-unfolding fractionOf
+unfolding fraction_of
 returns-2 c =
     let d = c.before in
     let f = d.before.digits_in in
     rw (← f.ensures.0, ← d.if1.false, eq-eqb f.result f.result refl, lt-leb _ _ c.if2.true)
 
 returns-3 : tie.Need-returns-3
-unfolding fractionOf
+unfolding fraction_of
 returns-3 c =
     let d = c.before.before in
     let f = d.before.digits_in in
@@ -42,7 +42,7 @@ quotient-requires c κs =
     omega (arith, small, c.decimal-of.ensures)
 
 returns-4 : tie.Need-returns-4
-unfolding fractionOf
+unfolding fraction_of
 returns-4 c =
     let d = c.before in
     let one = d.before.before.before in

@@ -8,7 +8,7 @@ use borrow.Author.Rules.{rules}
 use borrow.Author.Tests.{eqb-true}
 use lib.Dec.{eqb}
 use lib.ListN.{length, get_or}
-use Rattle.price_texts.specs.PriceText.{minus, priceOf}
+use Rattle.price_texts.specs.PriceText.{minus, price_of}
 use Rattle.input_lines.proofs.PartLaws.{to_end}
 use Rattle.price_texts.proofs.price_text.read_price.Statement.{statement}
 use Rattle.price_texts.proofs.price_text.read_price.Tie as tie
@@ -25,7 +25,7 @@ not-a-number-requires : tie.Need-not-a-number-requires
 not-a-number-requires c κs = search rules
 
 returns : tie.Need-returns
-unfolding priceOf
+unfolding price_of
 returns c = rw (← c.before.before.is_nan_text.ensures, c.before.if1.true, c.not-a-number.ensures)
 
 has-minus-requires : tie.Need-has-minus-requires
@@ -47,7 +47,7 @@ negate-requires : tie.Need-negate-requires
 negate-requires c κs = search rules
 
 returns-2 : tie.Need-returns-2
-unfolding priceOf
+unfolding price_of
 returns-2 c =
     let u = c.before in
     let sign = u.before.before in
@@ -66,7 +66,7 @@ unsigned-requires-2 : tie.Need-unsigned-requires-2
 unsigned-requires-2 c κs = search rules
 
 returns-3 : tie.Need-returns-3
-unfolding priceOf
+unfolding price_of
 returns-3 c =
     let sign = c.before in
     let plain = sign.before.before in

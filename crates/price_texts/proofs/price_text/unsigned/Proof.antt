@@ -5,7 +5,7 @@ use native.Mathlib.Omega.{arith}
 use borrow.Author.Tests.{eq-eqb, ne_eqb, le-leb, lt-leb}
 use borrow.Author.Rules.{rules}
 use lib.ListN.{length, take, length-take}
-use Rattle.price_texts.specs.PriceText.{isDigit, digitsIn, unsignedOf}
+use Rattle.price_texts.specs.PriceText.{is_digit, digits_in, unsigned_of}
 use Rattle.input_lines.proofs.RunLaws.{run-taken}
 use Rattle.price_texts.proofs.DigitLaws.{decimal-small}
 use Rattle.input_lines.proofs.PartLaws.{to_end}
@@ -16,11 +16,11 @@ digits-in-requires : tie.Need-digits-in-requires
 digits-in-requires c κs = search rules
 
 returns : tie.Need-returns
-unfolding unsignedOf
+unfolding unsigned_of
 returns c = rw (← c.before.digits_in.ensures.0, lt-leb _ _ c.if1.true)
 
 returns-2 : tie.Need-returns-2
-unfolding unsignedOf
+unfolding unsigned_of
 returns-2 c =
     let f = c.before.before.digits_in in
     rw (← f.ensures.0, le-leb _ _ c.before.if1.false, lt-leb f.result 9 (omega arith))
@@ -32,7 +32,7 @@ decimal-of-requires : tie.Need-decimal-of-requires
 decimal-of-requires c κs =
     let f = c.before.before.before.digits_in in
     let s = c.before.before.before.before.before.args.s.now in
-    (rw f.ensures.0 (run-taken isDigit s), simp length-take (omega arith), omega arith)
+    (rw f.ensures.0 (run-taken is_digit s), simp length-take (omega arith), omega arith)
 
 -- the digits before the point make a number below a thousand million
 small : (c : tie.After-decimal-of) → c.decimal-of.result < 10 ^ 9
@@ -40,7 +40,7 @@ small c =
     let two = c.before.before in
     let f = two.before.before.digits_in in
     let s = two.before.before.before.before.args.s.now in
-    let digits : digitsIn (take f.result s) ≡ length (take f.result s) = rw f.ensures.0 (run-taken isDigit s) in
+    let digits : digits_in (take f.result s) ≡ length (take f.result s) = rw f.ensures.0 (run-taken is_digit s) in
     let few : length (take f.result s) ≤ 9 = simp length-take (omega arith) in
     omega (arith, decimal-small 0 (take f.result s) 1 9 digits few (omega arith), c.decimal-of.ensures)
 
@@ -48,7 +48,7 @@ quotient-requires : tie.Need-quotient-requires
 quotient-requires c κs = omega (arith, small c.before)
 
 returns-3 : tie.Need-returns-3
-unfolding unsignedOf
+unfolding unsigned_of
 returns-3 c =
     let three = c.before in
     let d = three.before in
@@ -67,7 +67,7 @@ shared-slice-read-if4 : tie.Need-shared-slice-read-if4
 shared-slice-read-if4 c = search rules
 
 returns-4 : tie.Need-returns-4
-unfolding unsignedOf
+unfolding unsigned_of
 returns-4 c =
     let three = c.before.before in
     let two = three.before.before.before in
@@ -96,7 +96,7 @@ fraction-requires : tie.Need-fraction-requires
 fraction-requires c κs = small c.before.before.before.before
 
 returns-5 : tie.Need-returns-5
-unfolding unsignedOf
+unfolding unsigned_of
 returns-5 c =
     let point = c.before.before in
     let three = point.before.before in

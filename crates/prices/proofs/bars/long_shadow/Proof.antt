@@ -1,10 +1,10 @@
 -- The code is the definition.
-use Rattle.prices.specs.Bar.{longShadow}
+use Rattle.prices.specs.Bar.{long_shadow}
 use Rattle.prices.proofs.bars.long_shadow.Statement.{statement}
 use Rattle.prices.proofs.bars.long_shadow.Tie as tie
 
 returns : tie.Need-returns
-unfolding longShadow
+unfolding long_shadow
 returns c =
     simp (
       c.max.ensures,

@@ -1,9 +1,9 @@
-use Rattle.prices.specs.Bar.{lowerOf}
+use Rattle.prices.specs.Bar.{lower_of}
 use Rattle.prices.proofs.bars.lower.Statement.{statement}
 use Rattle.prices.proofs.bars.lower.Tie as tie
 
 returns : tie.Need-returns
-unfolding lowerOf
+unfolding lower_of
 returns c =
     simp c.before.min.ensures
 

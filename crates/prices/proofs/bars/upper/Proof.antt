@@ -1,9 +1,9 @@
-use Rattle.prices.specs.Bar.{upperOf}
+use Rattle.prices.specs.Bar.{upper_of}
 use Rattle.prices.proofs.bars.upper.Statement.{statement}
 use Rattle.prices.proofs.bars.upper.Tie as tie
 
 returns : tie.Need-returns
-unfolding upperOf
+unfolding upper_of
 returns c =
     simp c.before.max.ensures
 

@@ -1,9 +1,9 @@
-use Rattle.prices.specs.Price.{absOf}
+use Rattle.prices.specs.Price.{abs_of}
 use Rattle.prices.proofs.price.abs.Statement.{statement}
 use Rattle.prices.proofs.price.abs.Tie as tie
 
 returns : tie.Need-returns
-unfolding absOf
+unfolding abs_of
 returns c =
     simp (
       c.pick2.ensures,

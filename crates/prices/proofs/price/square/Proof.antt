@@ -1,11 +1,11 @@
 -- The code is the definition.
-use Rattle.prices.specs.Price.{squareOf}
+use Rattle.prices.specs.Price.{square_of}
 use mathlib.Core.Path.{refl}
 use Rattle.prices.proofs.price.square.Statement.{statement}
 use Rattle.prices.proofs.price.square.Tie as tie
 
 returns : tie.Need-returns
-unfolding squareOf
+unfolding square_of
 returns c = refl
 
 pub square-spec : {M : Type 1} → statement M

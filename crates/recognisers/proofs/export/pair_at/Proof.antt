@@ -2,11 +2,11 @@
 use native.Mathlib.Omega.{arith}
 use borrow.Author.Rules.{rules}
 use lib.ListN.{length-take}
-use Rattle.measures.specs.Bar.{barsOf}
-use Rattle.measures.specs.Window.{windowOf}
-use Rattle.rule_types.specs.Number.{reachBars}
+use Rattle.measures.specs.Bar.{bars_of}
+use Rattle.measures.specs.Window.{window_of}
+use Rattle.rule_types.specs.Number.{reach_bars}
 use Rattle.rule_table.proofs.Reach.{pair-near}
-use Rattle.recognisers.specs.Export.{decodedPrices}
+use Rattle.recognisers.specs.Export.{decoded_prices}
 use Rattle.recognisers.proofs.ByteLaws.{length-history}
 use Rattle.rule_table.proofs.TableLaws.{gate-enough}
 use Rattle.recognisers.proofs.export.pair_at.Statement.{statement}
@@ -28,8 +28,8 @@ returns c =
     let bars = gate.before.before in
     let window = bars.before.before in
     let args = window.before.before.before.before.args in
-    let history = barsOf (decodedPrices args.s.now) in
-    simp (pair-near, c.judge.ensures, gate.decode2.ensures.1, bars.gate-bars.ensures.0, window.decode.ensures.1, window.before.before.up_to_lem.ensures, length-history args.s.now) (gate-enough args.k args.t _ _ (windowOf history args.di reachBars) history)
+    let history = bars_of (decoded_prices args.s.now) in
+    simp (pair-near, c.judge.ensures, gate.decode2.ensures.1, bars.gate-bars.ensures.0, window.decode.ensures.1, window.before.before.up_to_lem.ensures, length-history args.s.now) (gate-enough args.k args.t _ _ (window_of history args.di reach_bars) history)
 
 pub pair-at-spec : {M : Type 1} → statement M
 pair-at-spec =

@@ -5,19 +5,19 @@ use native.Mathlib.Numerals.{add-one}
 use native.Mathlib.Omega.{arith}
 use lib.ListN.{length, take, length-set}
 use lib.Seq.{take-suc-set}
-use Rattle.recognisers.specs.Export.{pricesAt}
+use Rattle.recognisers.specs.Export.{prices_at}
 use Rattle.recognisers.proofs.ByteLaws.{prices-more}
 use Rattle.recognisers.proofs.export.prices_at.Statement.{statement}
 use Rattle.recognisers.proofs.export.prices_at.Tie as tie
 
 abbrev invariant-loop : tie.invariant-loop
-invariant-loop s at n out₀ i₀ out i = (i ≤ n) × (length out ≡ length out₀) × (take i out ≡ pricesAt s at i)
+invariant-loop s at n out₀ i₀ out i = (i ≤ n) × (length out ≡ length out₀) × (take i out ≡ prices_at s at i)
 
 abbrev decreases-loop : tie.decreases-loop
 decreases-loop s at n out₀ i₀ out i = n - i
 
 loop-holds : tie.Need-loop-init invariant-loop decreases-loop
-unfolding pricesAt
+unfolding prices_at
 loop-holds c = (omega arith, refl, refl)
 
 loop-again : tie.Need-loop-preserved invariant-loop decreases-loop

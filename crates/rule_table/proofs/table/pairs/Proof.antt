@@ -6,15 +6,15 @@ use native.Mathlib.Omega.{arith}
 use borrow.Author.Rules.{rules}
 use lib.ListN.{length, take, drop, length-set, drop_of_length-le}
 use lib.Seq.{take_all}
-use Rattle.rule_types.specs.Label.{pairA}
+use Rattle.rule_types.specs.Label.{pair_a}
 use Rattle.rule_types.specs.Number.{recognisers}
 use Rattle.rule_types.proofs.ListLaws.{place-next}
-use Rattle.rule_table.proofs.TableLaws.{shortOrs, length-shortOrs, shortOrs-first, length-rules, shortOrs-rules, short-start}
+use Rattle.rule_table.proofs.TableLaws.{short_ors, length-short_ors, short_ors-first, length-rules, short_ors-rules, short-start}
 use Rattle.rule_table.proofs.table.pairs.Statement.{statement}
 use Rattle.rule_table.proofs.table.pairs.Tie as tie
 
 abbrev invariant-loop : tie.invariant-loop
-invariant-loop len p w gate full pairs₀ k₀ pairs k = (k ≤ recognisers) × (length full ≡ recognisers) × (length pairs ≡ recognisers) × (pairs ≡ take k (shortOrs p 0 full) ++ drop k full)
+invariant-loop len p w gate full pairs₀ k₀ pairs k = (k ≤ recognisers) × (length full ≡ recognisers) × (length pairs ≡ recognisers) × (pairs ≡ take k (short_ors p 0 full) ++ drop k full)
 
 abbrev decreases-loop : tie.decreases-loop
 decreases-loop len p w gate full pairs₀ k₀ pairs k = recognisers - k
@@ -34,7 +34,7 @@ loop-again c =
     let full = at-loop.before.before.rules.result in
     let p = at-loop.before.before.before.before.before.args.p in
     let inside : k < length full = omega (arith, inv.1) in
-    (omega arith, inv.1, simp length-set inv.2, rw (c.row.ensures, inv.3) (rw (shortOrs-first p full k pairA inside) at (place-next (shortOrs p 0 full) full k pairA (rw length-shortOrs inside) inside)))
+    (omega arith, inv.1, simp length-set inv.2, rw (c.row.ensures, inv.3) (rw (short_ors-first p full k pair_a inside) at (place-next (short_ors p 0 full) full k pair_a (rw length-short_ors inside) inside)))
 
 returns : tie.Need-returns invariant-loop decreases-loop
 returns c =
@@ -44,7 +44,7 @@ returns c =
     let p = at-loop.before.before.before.before.before.args.p in
     let e : at-loop.loop.k ≡ recognisers = omega arith in
     let past : length full ≤ recognisers = omega (arith, inv.1) in
-    inv.3 ∙ rw (e, take_all recognisers (shortOrs p 0 full) (rw length-shortOrs (omega arith)), drop_of_length-le full past, append-nil, at-loop.before.before.rules.ensures) (shortOrs-rules _ _ _ _ _)
+    inv.3 ∙ rw (e, take_all recognisers (short_ors p 0 full) (rw length-short_ors (omega arith)), drop_of_length-le full past, append-nil, at-loop.before.before.rules.ensures) (short_ors-rules _ _ _ _ _)
 
 pub pairs-spec : {M : Type 1} → statement M
 pairs-spec =

@@ -8,19 +8,19 @@ use lib.ListN.{length, get_or, drop_of_length-le}
 use lib.Seq.{take_all}
 use Rattle.recognisers.specs.Number.{recognisers, labels}
 use Rattle.tallies.specs.declared.table.TallyRow.{TallyRow}
-use Rattle.tallies.specs.Tally.{rowOfCounts, byPlace, gainRow}
+use Rattle.tallies.specs.Tally.{row_of_counts, by_place, gain_row}
 use Rattle.tallies.proofs.PlaceLaws.{changed, changed-next}
 use Rattle.tallies.proofs.counts.add.Statement.{statement}
 use Rattle.tallies.proofs.counts.add.Tie as tie
 
 abbrev invariant-loop : tie.invariant-loop
-invariant-loop numbers tally next₀ k₀ next k = (k ≤ recognisers) × (length tally ≡ recognisers) × (next ≡ changed (λ i row. rowOfCounts (gainRow (λ c. get_or numbers (labels * i + c) 0) row.counts)) k tally)
+invariant-loop numbers tally next₀ k₀ next k = (k ≤ recognisers) × (length tally ≡ recognisers) × (next ≡ changed (λ i row. row_of_counts (gain_row (λ c. get_or numbers (labels * i + c) 0) row.counts)) k tally)
 
 abbrev decreases-loop : tie.decreases-loop
 decreases-loop numbers tally next₀ k₀ next k = recognisers - k
 
 loop-holds : tie.Need-loop-init invariant-loop decreases-loop
-unfolding byPlace
+unfolding by_place
 loop-holds c = (omega arith, c.before.well-formed.0.1.0.1, refl)
 
 mul-row : tie.Need-overflow-mul-row invariant-loop decreases-loop
@@ -54,9 +54,9 @@ loop-again c =
     let tally = start.args.t1 in
     let k = at-loop.loop.k in
     let inside : k < length tally = omega (arith, at-loop.loop.invariant.1) in
-    let change : ℕ → TallyRow → TallyRow = λ i row. rowOfCounts (gainRow (λ c. get_or start.args.numbers.now (labels * i + c) 0) row.counts) in
-    let row : c.add_row.result ≡ change k (get_or tally k (rowOfCounts [])) = ap rowOfCounts c.add_row.ensures in
-    (omega arith, at-loop.loop.invariant.1, rw (at-loop.loop.invariant.2, row) (changed-next change tally k (rowOfCounts []) inside))
+    let change : ℕ → TallyRow → TallyRow = λ i row. row_of_counts (gain_row (λ c. get_or start.args.numbers.now (labels * i + c) 0) row.counts) in
+    let row : c.add_row.result ≡ change k (get_or tally k (row_of_counts [])) = ap row_of_counts c.add_row.ensures in
+    (omega arith, at-loop.loop.invariant.1, rw (at-loop.loop.invariant.2, row) (changed-next change tally k (row_of_counts []) inside))
 
 returns : tie.Need-returns invariant-loop decreases-loop
 returns c =

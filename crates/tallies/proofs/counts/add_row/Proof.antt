@@ -7,7 +7,7 @@ use borrow.Author.Rules.{rules}
 use lib.ListN.{length, get_or, length-map, drop_of_length-le}
 use lib.Seq.{take_all}
 use Rattle.recognisers.specs.Number.{labels}
-use Rattle.tallies.specs.Tally.{byPlace}
+use Rattle.tallies.specs.Tally.{by_place}
 use Rattle.tallies.proofs.PlaceLaws.{changed, changed-at, changed-next}
 use Rattle.tallies.proofs.counts.add_row.Statement.{statement}
 use Rattle.tallies.proofs.counts.add_row.Tie as tie
@@ -19,7 +19,7 @@ abbrev decreases-loop : tie.decreases-loop
 decreases-loop k numbers counts₀ c₀ counts c = labels - c
 
 loop-holds : tie.Need-loop-init invariant-loop decreases-loop
-unfolding byPlace
+unfolding by_place
 loop-holds c = (omega arith, simp length-map at c.before.well-formed.0.1.1.0.1.0.1, refl)
 
 mul-counts : tie.Need-overflow-mul-counts invariant-loop decreases-loop

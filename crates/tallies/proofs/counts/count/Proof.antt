@@ -4,8 +4,8 @@ use mathlib.Core.Path.{◌∙◌}
 use native.Mathlib.Omega.{arith}
 use lib.Dec.{eqb}
 use lib.ListN.{length, get_or}
-use Rattle.recognisers.specs.Number.{recognisers, labels, rowBytes}
-use Rattle.tallies.specs.Tally.{countsOf, v1In, rowsWith, counted}
+use Rattle.recognisers.specs.Number.{recognisers, labels, row_bytes}
+use Rattle.tallies.specs.Tally.{counts_of, v1_in, rows_with, counted}
 use Rattle.tallies.proofs.TallyLaws.{cell-total, row-adds, gained-same}
 use Rattle.tallies.proofs.CountLaws.{count_most}
 use borrow.Author.Rules.{rules}
@@ -27,14 +27,14 @@ add-requires c κs =
     let numbers = c.before.count-rows.ensures in (
       numbers.0,
       λ k known code label.
-          let cell = cell-total (countsOf tally k) code in
+          let cell = cell-total (counts_of tally k) code in
           let sum = row-adds start.args.n tally pre.2 k (omega (arith, pre.1.0)) in
-          let most = count_most (λ i. eqb (v1In sheet i k) code) (length sheet / rowBytes) in
+          let most = count_most (λ i. eqb (v1_in sheet i k) code) (length sheet / row_bytes) in
           rw (numbers.1 k code known label) (omega (arith, cell, sum, most, pre.3)),
     )
 
 returns : tie.Need-returns
-unfolding counted rowsWith
+unfolding counted rows_with
 returns c =
     let start = c.before.before.before.before in
     let sheet = start.args.sheet.now in
@@ -42,7 +42,7 @@ returns c =
     let shaped = start.requires.1 in
     let numbers = c.before.before.count-rows.ensures in
     c.add.ensures
-    ∙ gained-same (λ k code. get_or c.before.before.count-rows.result (labels * k + code) 0) (rowsWith sheet) tally (λ k code h w.
+    ∙ gained-same (λ k code. get_or c.before.before.count-rows.result (labels * k + code) 0) (rows_with sheet) tally (λ k code h w.
     let known : k < recognisers = omega (arith, shaped.0) in
     numbers.1 k code known (omega (arith, shaped.1 k known)))
 

@@ -4,7 +4,7 @@ use mathlib.Core.Path.{◌≡◌}
 use native.Mathlib.Omega.{arith}
 use borrow.Author.Rules.{rules}
 use lib.ListN.{length}
-use Rattle.recognisers.specs.Number.{rowBytes}
+use Rattle.recognisers.specs.Number.{row_bytes}
 use Rattle.tallies.specs.CountSteps.{Counted}
 use Rattle.tallies.proofs.CountLaws.{none-counted}
 use Rattle.tallies.proofs.counts.count_rows.Statement.{statement}
@@ -40,7 +40,7 @@ loop-again c = (omega arith, c.before.count-row.ensures)
 returns : tie.Need-returns invariant-loop decreases-loop
 returns c =
     let inv = c.before.loop.invariant in
-    let all : c.before.loop.i ≡ length c.before.before.before.args.sheet.now / rowBytes = omega arith in
+    let all : c.before.loop.i ≡ length c.before.before.before.args.sheet.now / row_bytes = omega arith in
     rw all at inv.1
 
 pub count-rows-spec : {M : Type 1} → statement M

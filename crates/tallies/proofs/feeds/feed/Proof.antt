@@ -4,16 +4,16 @@ use mathlib.Core.Path.{◌≡◌, ap, sym, ◌∙◌}
 use native.Mathlib.Omega.{arith}
 use lib.ListN.{length, take}
 use lib.Seq.{length-take-le}
-use Rattle.recognisers.specs.Number.{rowBytes}
-use Rattle.measures.specs.Bar.{barsOf}
+use Rattle.recognisers.specs.Number.{row_bytes}
+use Rattle.measures.specs.Bar.{bars_of}
 use Rattle.measures.proofs.RunLaws.{length-bars}
 use Rattle.box_record.specs.declared.boxes.Outcome.{Outcome}
 use Rattle.bar_box.specs.Sheet.{rows_of}
-use Rattle.bar_box.specs.Box.{kept, isRight}
+use Rattle.bar_box.specs.Box.{kept, is_right}
 use Rattle.bar_box.proofs.FeedSteps.{fits}
 use Rattle.bar_box.proofs.SheetLaws.{length-rows}
 use Rattle.tallies.specs.Tally.{counted}
-use Rattle.tallies.specs.Feed.{lent, talliedOf, talliedSheet}
+use Rattle.tallies.specs.Feed.{lent, tallied_of, tallied_sheet}
 use Rattle.tallies.proofs.RowLaws.{rows-known}
 use Rattle.tallies.proofs.FeedLaws.{with-test, accepted-adds, accepted-plain, fed-after, rows_written, tallied-accepted}
 use borrow.Author.Rules.{rules}
@@ -67,8 +67,8 @@ slice-aggregate-count c =
     let plain = accepted-plain args.b args.tally f accepted in
     let met = fits _ _ _ _ _ plain in
     let fed = c.before.before.before.before.before.feed in
-    let within : rowBytes * c.before.count.result ≤ length fed.new.1.1.0 = omega (arith, c.before.count.ensures, length-bars args.prices.now, met.room, fed.auto.1.1.0) in
-    sym (length-take-le (rowBytes * c.before.count.result) fed.new.1.1.0 within)
+    let within : row_bytes * c.before.count.result ≤ length fed.new.1.1.0 = omega (arith, c.before.count.ensures, length-bars args.prices.now, met.room, fed.auto.1.1.0) in
+    sym (length-take-le (row_bytes * c.before.count.result) fed.new.1.1.0 within)
 
 count-requires-2 : tie.Need-count-requires-2
 count-requires-2 c κs =
@@ -80,18 +80,18 @@ count-requires-2 c κs =
     let plain = accepted-plain args.b args.tally f accepted in
     let met = fits _ _ _ _ _ plain in
     let fed = c.before.before.before.before.before.feed in
-    let bars = barsOf args.prices.now in
+    let bars = bars_of args.prices.now in
     let rows = rows_of args.b.thresholds args.b.count (kept args.b) bars in
-    let written : take (rowBytes * c.before.count.result) fed.new.1.1.0 ≡ rows = rw (c.before.count.ensures, fed.ensures.1.0) (rows_written args.b args.tally f accepted) in
+    let written : take (row_bytes * c.before.count.result) fed.new.1.1.0 ≡ rows = rw (c.before.count.ensures, fed.ensures.1.0) (rows_written args.b args.tally f accepted) in
     let size = length-rows args.b.thresholds args.b.count (kept args.b) bars in (
       rw written (rows-known args.b.thresholds args.b.count (kept args.b) bars),
       call.tally-verdict.ensures.1,
-      accepted-adds args.b.thresholds args.b.count (isRight args.b) args.tally (length args.prices.now) (length args.sheet.now) accepted,
+      accepted-adds args.b.thresholds args.b.count (is_right args.b) args.tally (length args.prices.now) (length args.sheet.now) accepted,
       rw written (omega (arith, size, length-bars args.prices.now, met.few)),
     )
 
 returns : tie.Need-returns
-unfolding talliedOf talliedSheet
+unfolding tallied_of tallied_sheet
 returns c =
     let call = c.before.before.before in
     let args = call.before.before.before.before.before.args in
@@ -103,7 +103,7 @@ same_length : tie.Need-same-length
 same_length c = search rules
 
 returns-2 : tie.Need-returns-2
-unfolding talliedSheet
+unfolding tallied_sheet
 returns-2 c =
     let told = c.before.before.before.before.before.before.before.before in
     let call = told.before.before in
@@ -113,9 +113,9 @@ returns-2 c =
     let plain = accepted-plain args.b args.tally f accepted in
     let met = fits _ _ _ _ _ plain in
     let fed = c.before.before.before.before.before.before.feed in
-    let bars = barsOf args.prices.now in
+    let bars = bars_of args.prices.now in
     let rows = rows_of args.b.thresholds args.b.count (kept args.b) bars in
-    let written : take (rowBytes * c.before.before.count.result) fed.new.1.1.0 ≡ rows = rw (c.before.before.count.ensures, fed.ensures.1.0) (rows_written args.b args.tally f accepted) in
+    let written : take (row_bytes * c.before.before.count.result) fed.new.1.1.0 ≡ rows = rw (c.before.before.count.ensures, fed.ensures.1.0) (rows_written args.b args.tally f accepted) in
     let after = ap (λ (o : Outcome). o.after) fed.ensures.0 ∙ fed-after args.b args.tally f accepted in
     let tally : c.count2.result ≡ counted rows args.tally = c.count2.ensures ∙ rw written in
     (rw (tallied-accepted args.b args.tally f accepted, after, tally), rw accepted fed.ensures.1.0, call.tally-verdict.ensures.1, rw accepted)

@@ -7,21 +7,21 @@ use lib.ListN.{length, get_or, take, length-map}
 use lib.Seq.{take_all}
 use Rattle.measures.proofs.Overlay.{overlay-none}
 use Rattle.recognisers.specs.Number.{labels}
-use Rattle.output_lines.specs.Output.{longestCount, Written}
+use Rattle.output_lines.specs.Output.{longest_count, Written}
 use Rattle.output_lines.proofs.OutputLaws.{written_on}
-use Rattle.tally_lines.specs.Output.{cellLine, cellLines}
+use Rattle.tally_lines.specs.Output.{cell_line, cell_lines}
 use Rattle.tally_lines.proofs.OutputLaws.{cell-most, cells-next}
 use Rattle.tally_lines.proofs.output.write_cells.Statement.{statement}
 use Rattle.tally_lines.proofs.output.write_cells.Tie as tie
 
 abbrev invariant-loop : tie.invariant-loop
-invariant-loop k out₀ at counts c₀ place₀ out c place = (c ≤ labels) × (length out ≡ length out₀) × (place ≤ at + longestCount * c) × Written out₀ at (cellLines k 0 (take c counts)) out place
+invariant-loop k out₀ at counts c₀ place₀ out c place = (c ≤ labels) × (length out ≡ length out₀) × (place ≤ at + longest_count * c) × Written out₀ at (cell_lines k 0 (take c counts)) out place
 
 abbrev decreases-loop : tie.decreases-loop
 decreases-loop k out₀ at counts c₀ place₀ out c place = labels - c
 
 loop-holds : tie.Need-loop-init invariant-loop decreases-loop
-unfolding cellLines
+unfolding cell_lines
 loop-holds c = let args = c.before.before.args in (omega arith, refl, omega arith, (omega arith, sym (overlay-none args.out.now args.at)))
 
 mul-count : tie.Need-overflow-mul-count invariant-loop decreases-loop
@@ -55,10 +55,10 @@ loop-again c =
     let args = start.args in
     let counts = args.row.counts in
     let all : length counts ≡ labels = simp length-map at start.well-formed.1.0.1.1.0.1.0.1 in
-    let line = cellLine args.k loop.c (get_or counts loop.c 0) in
+    let line = cell_line args.k loop.c (get_or counts loop.c 0) in
     let most = cell-most args.k loop.c (get_or counts loop.c 0) in
     let did = call.write_cell.ensures in
-    let on = written_on args.out.now args.at (cellLines args.k 0 (take loop.c counts)) _ _ line _ _ (omega (arith, most, start.requires, inv.2)) inv.3 did.1 in
+    let on = written_on args.out.now args.at (cell_lines args.k 0 (take loop.c counts)) _ _ line _ _ (omega (arith, most, start.requires, inv.2)) inv.3 did.1 in
     (omega arith, call.write_cell.auto.1.1.1.0 ∙ inv.1, omega (arith, did.0, inv.2), rw (cells-next args.k counts loop.c (omega (arith, all))) on)
 
 same_length : tie.Need-same-length invariant-loop decreases-loop

@@ -3,7 +3,7 @@ use Prim.Native.Nat.{◌*◌}
 use mathlib.Core.Path.{refl, sym, ◌∙◌}
 use native.Mathlib.Omega.{arith}
 use borrow.Author.Rules.{rules}
-use Rattle.measures.specs.Bar.{pricesOf}
+use Rattle.measures.specs.Bar.{prices_of}
 use Rattle.measures.proofs.Overlay.{overlay-none}
 use Rattle.measures.proofs.PriceLaws.{put-room}
 use Rattle.tally_lines.proofs.reading.end_line.Statement.{statement}
@@ -44,7 +44,7 @@ returns c =
     rw says (reading.before.begin.ensures, refl, refl, refl, put.put-bar.ensures ∙ put-room args.prices.now args.n told.bar.given.0.0 start.requires)
 
 returns-2 : tie.Need-returns-2
-unfolding pricesOf
+unfolding prices_of
 returns-2 c =
     let reading = c.before.before in
     let args = reading.before.before.before.args in
@@ -52,7 +52,7 @@ returns-2 c =
     rw says (reading.before.begin.ensures, refl, omega arith, refl, sym (overlay-none args.prices.now (4 * args.n)))
 
 returns-3 : tie.Need-returns-3
-unfolding pricesOf
+unfolding prices_of
 returns-3 c =
     let reading = c.before.before.before in
     let args = reading.before.before.before.args in

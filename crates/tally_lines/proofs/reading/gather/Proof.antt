@@ -7,15 +7,15 @@ use mathlib.Core.Path.{◌≡◌, refl, sym, ap, ◌∙◌}
 use native.Mathlib.Omega.{arith}
 use borrow.Author.Rules.{rules}
 use lib.ListN.{length, take, drop, length-append, length-drop}
-use Rattle.measures.specs.Bar.{overlay, pricesOf}
+use Rattle.measures.specs.Bar.{overlay, prices_of}
 use Rattle.measures.proofs.Overlay.{overlay-none, overlay-more}
 use Rattle.measures.proofs.PriceLaws.{length-prices, prices-append}
-use Rattle.input_lines.specs.Lines.{content, keptLine, partialOf}
+use Rattle.input_lines.specs.Lines.{content, kept_line, partial_of}
 use Rattle.input_lines.proofs.LineLaws.{content-partial}
 use Rattle.input_lines.proofs.PartLaws.{to_end}
 use Rattle.tally_lines.specs.declared.reading.Gathered.{Gathered}
-use Rattle.output_lines.specs.Output.{goesOn}
-use Rattle.tally_lines.specs.Session.{readFrom}
+use Rattle.output_lines.specs.Output.{goes_on}
+use Rattle.tally_lines.specs.Session.{read_from}
 use Rattle.tally_lines.proofs.GuardLaws.{goes_on, used-some}
 use Rattle.tally_lines.proofs.ReadLaws.{read_kept, read-turn, gathered-is, begun_kept}
 use Rattle.tally_lines.proofs.reading.gather.Statement.{statement}
@@ -23,15 +23,15 @@ use Rattle.tally_lines.proofs.reading.gather.Tie as tie
 
 abbrev invariant-loop : tie.invariant-loop
 invariant-loop chunk most prices₀ begun₀ used₀ bars₀ stop₀ going₀ prices begun used bars stop going =
-    let read = readFrom [] (content begun₀) (take used chunk) in
+    let read = read_from [] (content begun₀) (take used chunk) in
     (used ≤ length chunk)
     × (bars ≤ most)
     × (length prices ≡ length prices₀)
-    × (begun ≡ partialOf read.line)
+    × (begun ≡ partial_of read.line)
     × (bars ≡ length read.bars)
     × (stop ≡ read.stop)
-    × (going ≡ goesOn stop)
-    × (prices ≡ overlay prices₀ 0 (pricesOf read.bars))
+    × (going ≡ goes_on stop)
+    × (prices ≡ overlay prices₀ 0 (prices_of read.bars))
     × (used ≡ 0 → (bars < most) × (going ≡ true))
 
 abbrev decreases-loop : tie.decreases-loop
@@ -44,7 +44,7 @@ extend-requires : tie.Need-extend-requires invariant-loop decreases-loop
 extend-requires c κs = search rules
 
 loop-holds : tie.Need-loop-init invariant-loop decreases-loop
-unfolding readFrom pricesOf
+unfolding read_from prices_of
 loop-holds c =
     let start = c.before.before.before.before in
     (omega arith, omega arith, refl, begun_kept c.extend.result (content start.args.line ++ []) c.extend.ensures, refl, refl, refl, sym (overlay-none start.args.prices.now 0), λ e. (omega (arith, start.requires.0), refl))
@@ -102,17 +102,17 @@ loop-again c =
     let sure = goes_on loop.used (length chunk) loop.bars start.args.most loop.going c.before.before.before.before.before.before.before.before.loop-test.true in
     let u = loop.used in
     let n = turn.result.used in
-    let read = readFrom [] first (take u chunk) in
-    let more = readFrom [] read.line (take n (drop u chunk)) in
+    let read = read_from [] first (take u chunk) in
+    let more = read_from [] read.line (take n (drop u chunk)) in
     let begun : content loop.begun ≡ read.line = rw inv.3 (content-partial read.line) in
     let did = rw (to_end chunk u, begun) at turn.ensures in
-    let still : goesOn read.stop ≡ true = rw (← inv.5, ← inv.6) sure.2 in
+    let still : goes_on read.stop ≡ true = rw (← inv.5, ← inv.6) sure.2 in
     let on = read-turn first chunk u n read refl still in
     let is = did.1.0 in
     let front = length-prices read.bars in
     let back = length-prices more.bars in
     let bars : turn.result.bars ≡ loop.bars + length more.bars = ap (λ (g : Gathered). g.bars) is in
-    let joined = overlay-more s 0 (pricesOf read.bars) (pricesOf more.bars) (4 * loop.bars) (omega (arith, front, inv.4)) (omega (arith, back, bars, did.0.2, start.requires.1, sure.1)) in
+    let joined = overlay-more s 0 (prices_of read.bars) (prices_of more.bars) (4 * loop.bars) (omega (arith, front, inv.4)) (omega (arith, back, bars, did.0.2, start.requires.1, sure.1)) in
     rw on (
       omega (arith, inv.0, rw length-drop at did.0.1),
       omega (arith, did.0.2, sure.1),
@@ -136,10 +136,10 @@ returns c =
     let start = at-loop.before.before.before.before.before in
     let line = content start.args.line in
     let chunk = start.args.chunk.now in
-    let first : content at-loop.before.extend.result ≡ keptLine line = rw (at-loop.before.extend.ensures, content-partial (keptLine (line ++ [])), append-nil) in
+    let first : content at-loop.before.extend.result ≡ kept_line line = rw (at-loop.before.extend.ensures, content-partial (kept_line (line ++ [])), append-nil) in
     let whole = rw (first, read_kept [] line (take loop.used chunk)) at inv in
     let some : 1 ≤ loop.used = used-some loop.used (length chunk) loop.bars start.args.most loop.going start.requires.2 inv.8 c.loop-test.false in
-    ((some, inv.0, inv.1), (gathered-is (record { line = loop.begun; used = loop.used; bars = loop.bars; stop = loop.stop }) loop.used 0 (readFrom [] line (take loop.used chunk)) whole.3 refl (omega (arith, whole.4)) whole.5, whole.7))
+    ((some, inv.0, inv.1), (gathered-is (record { line = loop.begun; used = loop.used; bars = loop.bars; stop = loop.stop }) loop.used 0 (read_from [] line (take loop.used chunk)) whole.3 refl (omega (arith, whole.4)) whole.5, whole.7))
 
 pub gather-spec : {M : Type 1} → statement M
 gather-spec =

@@ -8,21 +8,21 @@ use borrow.Author.Rules.{rules}
 use borrow.Author.Tests.{ltb-true}
 use lib.ListN.{length, take, drop, length-map, length-take, length-drop}
 use lib.Seq.{take_all, take-add}
-use Rattle.recognisers.specs.Number.{longestLine}
-use Rattle.input_lines.specs.Lines.{content, keptLine, partialOf}
+use Rattle.recognisers.specs.Number.{longest_line}
+use Rattle.input_lines.specs.Lines.{content, kept_line, partial_of}
 use Rattle.input_lines.proofs.LineLaws.{content-partial}
 use Rattle.input_lines.proofs.PartLaws.{to_end}
 use Rattle.input_lines.proofs.RunLaws.{both}
 use Rattle.tally_lines.specs.declared.session.Session.{Session}
-use Rattle.output_lines.specs.Output.{goesOn}
-use Rattle.tally_lines.specs.Session.{State, state_of, sessionOf, stateAfter}
+use Rattle.output_lines.specs.Output.{goes_on}
+use Rattle.tally_lines.specs.Session.{State, state_of, session_of, state_after}
 use Rattle.tally_lines.proofs.SessionLaws.{taken-append, state-session, session-stays, rest-left}
 use Rattle.tally_lines.proofs.session.absorb.Statement.{statement}
 use Rattle.tally_lines.proofs.session.absorb.Tie as tie
 
 abbrev invariant-loop : tie.invariant-loop
 invariant-loop chunk session₀ used₀ going₀ session used going =
-    (used ≤ length chunk) × (session ≡ sessionOf (stateAfter (state_of session₀) (take used chunk))) × (going ≡ goesOn session.stop)
+    (used ≤ length chunk) × (session ≡ session_of (state_after (state_of session₀) (take used chunk))) × (going ≡ goes_on session.stop)
 
 abbrev decreases-loop : tie.decreases-loop
 decreases-loop chunk session₀ used₀ going₀ session used going = length chunk - used
@@ -95,7 +95,7 @@ loop-again c =
     let s : State = record { line = content at-loop.before.before.before.before.extend.result; box = args.st.held; tally = args.st.tally; stop = args.st.stop } in
     let u = loop.used in
     let n = turn.result.used in
-    let here : state_of loop.session ≡ stateAfter s (take u chunk) = rw inv.1 (state-session (stateAfter s (take u chunk))) in
+    let here : state_of loop.session ≡ state_after s (take u chunk) = rw inv.1 (state-session (state_after s (take u chunk))) in
     let did = rw (to_end chunk u, here) at turn.ensures in
     (omega (arith, inv.0, rw length-drop at did.1), rw (take-add u n chunk, taken-append s (take u chunk) (take n (drop u chunk))) did.2, c.goes-on2.ensures)
 
@@ -109,13 +109,13 @@ returns c =
     let args = start.args in
     let chunk = args.chunk.now in
     let s = state_of args.st in
-    let all-bytes : length args.st.line.bytes ≡ suc longestLine = simp length-map at start.well-formed.0.1.1.0.1.1.0.1.0.1 in
-    let short : length s.line ≤ suc longestLine = rw length-take (omega arith) in
-    let took : extended.result ≡ partialOf (keptLine (s.line ++ [])) = extended.ensures in
-    let kept : content extended.result ≡ s.line = rw (took, content-partial (keptLine (s.line ++ [])), append-nil) (take_all (suc longestLine) s.line short) in
-    let is : loop.session ≡ sessionOf (stateAfter s (take loop.used chunk)) = rw kept at inv.1 in
-    let stop : loop.session.stop ≡ (stateAfter s (take loop.used chunk)).stop = ap (λ (st : Session). st.stop) is in
-    is ∙ ap sessionOf (rest-left s chunk loop.used loop.going inv.0 (rw stop at inv.2) c.loop-test.false)
+    let all-bytes : length args.st.line.bytes ≡ suc longest_line = simp length-map at start.well-formed.0.1.1.0.1.1.0.1.0.1 in
+    let short : length s.line ≤ suc longest_line = rw length-take (omega arith) in
+    let took : extended.result ≡ partial_of (kept_line (s.line ++ [])) = extended.ensures in
+    let kept : content extended.result ≡ s.line = rw (took, content-partial (kept_line (s.line ++ [])), append-nil) (take_all (suc longest_line) s.line short) in
+    let is : loop.session ≡ session_of (state_after s (take loop.used chunk)) = rw kept at inv.1 in
+    let stop : loop.session.stop ≡ (state_after s (take loop.used chunk)).stop = ap (λ (st : Session). st.stop) is in
+    is ∙ ap session_of (rest-left s chunk loop.used loop.going inv.0 (rw stop at inv.2) c.loop-test.false)
 
 pub absorb-spec : {M : Type 1} → statement M
 absorb-spec =

@@ -3,7 +3,7 @@ use Prim.Native.Nat.{◌≤◌}
 use mathlib.Core.Path.{◌≡◌, sym, ◌∙◌}
 use native.Mathlib.Omega.{arith}
 use lib.ListN.{length, length-map}
-use Rattle.measures.specs.Bar.{barsOf}
+use Rattle.measures.specs.Bar.{bars_of}
 use Rattle.tally_lines.proofs.BatchLaws.{batch-fed, none-fed}
 use borrow.Author.Rules.{rules}
 use Rattle.tally_lines.proofs.session.feed_all.Statement.{statement}
@@ -30,7 +30,7 @@ returns-2 c =
     let ps = args.prices.now in
     let all : length args.held.bars ≡ 64 = simp length-map at start.well-formed.0.1.1.1.1.1.0.1.0.1 in
     let size : length buffer.large-buffer.result ≡ 65536 = sym buffer.large-buffer.ensures in
-    let some : 1 ≤ length (barsOf ps) = omega (arith, start.requires.0, buffer.before.if1.false) in
+    let some : 1 ≤ length (bars_of ps) = omega (arith, start.requires.0, buffer.before.if1.false) in
     fed.ensures.0 ∙ batch-fed args.held all args.tally fed.ensures.2 ps buffer.large-buffer.result start.requires.0 some start.requires.2 (omega (arith, start.requires.0, start.requires.1, size))
 
 pub feed-all-spec : {M : Type 1} → statement M

@@ -2,7 +2,7 @@
 use mathlib.Core.Path.{sym, ◌∙◌}
 use native.Mathlib.Omega.{arith}
 use borrow.Author.Rules.{rules}
-use Rattle.output_lines.specs.Output.{longestRefusal}
+use Rattle.output_lines.specs.Output.{longest_refusal}
 use Rattle.output_lines.proofs.OutputLaws.{written}
 use Rattle.tally_lines.proofs.session.print.Statement.{statement}
 use Rattle.tally_lines.proofs.session.print.Tie as tie
@@ -43,7 +43,7 @@ returns-2 c =
     let start = else.before.before.before.before.before in
     let out = start.args.out.now in
     let wrote = call.print-refusal.ensures in
-    rw (sym else.before.goes_on.ensures ∙ else.if1.false) (omega (arith, wrote.1, start.requires), written longestRefusal _ out 0 _ _ (omega (arith, start.requires)) wrote.0)
+    rw (sym else.before.goes_on.ensures ∙ else.if1.false) (omega (arith, wrote.1, start.requires), written longest_refusal _ out 0 _ _ (omega (arith, start.requires)) wrote.0)
 
 pub print-spec : {M : Type 1} → statement M
 print-spec =

@@ -9,7 +9,7 @@ use Rattle.measures.proofs.PriceLaws.{front-bars}
 use Rattle.input_lines.specs.Lines.{content}
 use Rattle.input_lines.proofs.LineLaws.{content-partial}
 use Rattle.tally_lines.specs.declared.reading.Gathered.{Gathered}
-use Rattle.tally_lines.specs.Session.{readFrom, state_of, sessionOf}
+use Rattle.tally_lines.specs.Session.{read_from, state_of, session_of}
 use Rattle.tally_lines.proofs.SessionLaws.{taken-by}
 use borrow.Author.Rules.{rules}
 use Rattle.tally_lines.proofs.session.take_in.Statement.{statement}
@@ -39,7 +39,7 @@ feed-all-requires c κs =
     let args = got.before.before.before.before.before.before.before.args in
     let made = got.before.before.batch.ensures in
     let did = got.gather.ensures in
-    let read = readFrom [] (content args.st.line) (take got.gather.result.used args.chunk.now) in
+    let read = read_from [] (content args.st.line) (take got.gather.result.used args.chunk.now) in
     let n : got.gather.result.bars ≡ 0 + length read.bars = ap (λ (g : Gathered). g.bars) did.1.0 in
     let bars = front-bars _ _ read.bars (4 * got.gather.result.bars) did.1.1 (omega (arith, n)) in
     let size = length-take-le (4 * got.gather.result.bars) got.gather.new.1.1.1.0 (omega (arith, got.gather.auto.1.1.1.0, did.0.2, made.1)) in
@@ -58,13 +58,13 @@ returns c =
     let args = start.args in
     let did = got.gather.ensures in
     let bytes = take got.gather.result.used args.chunk.now in
-    let read = readFrom [] (content args.st.line) bytes in
+    let read = read_from [] (content args.st.line) bytes in
     let n : got.gather.result.bars ≡ 0 + length read.bars = ap (λ (g : Gathered). g.bars) did.1.0 in
     let bars = front-bars _ _ read.bars (4 * got.gather.result.bars) did.1.1 (omega (arith, n)) in
     let line : content got.gather.result.line ≡ read.line = rw (ap (λ (g : Gathered). g.line) did.1.0) (content-partial read.line) in
     let stop : got.gather.result.stop ≡ read.stop = ap (λ (g : Gathered). g.stop) did.1.0 in
     let fed = rw bars at c.before.feed-all.ensures in
-    (did.0.0, did.0.1, c.settle.ensures ∙ ap sessionOf (taken-by (state_of args.st) bytes _ _ _ start.requires.0 fed line stop))
+    (did.0.0, did.0.1, c.settle.ensures ∙ ap session_of (taken-by (state_of args.st) bytes _ _ _ start.requires.0 fed line stop))
 
 pub take-in-spec : {M : Type 1} → statement M
 take-in-spec =

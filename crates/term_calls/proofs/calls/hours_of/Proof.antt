@@ -1,5 +1,5 @@
 -- Window by window. Assumes nothing.
-use Rattle.term_calls.specs.TermCalls.{hoursIn}
+use Rattle.term_calls.specs.TermCalls.{hours_in}
 use borrow.Author.Rules.{rules}
 use Rattle.term_calls.proofs.calls.hours_of.Statement.{statement}
 use Rattle.term_calls.proofs.calls.hours_of.Tie as tie
@@ -29,7 +29,7 @@ cast-t12 : tie.Need-overflow-cast-t12
 cast-t12 c = search rules
 
 returns : tie.Need-returns
-unfolding hoursIn
+unfolding hours_in
 returns c =
     let fourth = c.before in
     let third = fourth.before in

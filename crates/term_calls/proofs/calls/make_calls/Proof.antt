@@ -9,9 +9,9 @@ use lib.ListN.{length, take, drop, drop_of_length-le, take-append-drop}
 use lib.Seq.{take_all}
 use Rattle.measures.specs.Bar.{overlay}
 use Rattle.measures.proofs.Overlay.{overlay-none}
-use Rattle.recognisers.specs.Number.{rowBytes, mostBars}
-use Rattle.term_calls.specs.Numbers.{writtenTo}
-use Rattle.term_calls.specs.TermCalls.{answersOf, sheetThrough}
+use Rattle.recognisers.specs.Number.{row_bytes, most_bars}
+use Rattle.term_calls.specs.Numbers.{written_to}
+use Rattle.term_calls.specs.TermCalls.{answers_of, sheet_through}
 use Rattle.term_calls.proofs.ListLaws.{overlay-then}
 use Rattle.term_calls.proofs.CallLaws.{rows_at, call_next}
 use Rattle.term_calls.proofs.calls.make_calls.Statement.{statement}
@@ -19,8 +19,8 @@ use Rattle.term_calls.proofs.calls.make_calls.Tie as tie
 
 abbrev invariant-loop : tie.invariant-loop
 invariant-loop sizes prices stamps sheet₀ answers₀ layer₀ p₀ s₀ at₀ i₀ sheet answers layer p s at i = (i ≤ length sizes) × (p ≤ length prices) × (s ≤ length stamps) × (at ≤ length sheet) × (length sheet ≡ length sheet₀) × (length answers ≡ length answers₀)
-    × (sheetThrough layer₀ prices stamps sheet₀ sizes ≡ take at sheet ++ sheetThrough layer (drop p prices) (drop s stamps) (drop at sheet) (drop i sizes))
-    × (writtenTo answers₀ (answersOf layer₀ prices stamps sheet₀ sizes) ≡ overlay answers i (take (length answers - i) (answersOf layer (drop p prices) (drop s stamps) (drop at sheet) (drop i sizes))))
+    × (sheet_through layer₀ prices stamps sheet₀ sizes ≡ take at sheet ++ sheet_through layer (drop p prices) (drop s stamps) (drop at sheet) (drop i sizes))
+    × (written_to answers₀ (answers_of layer₀ prices stamps sheet₀ sizes) ≡ overlay answers i (take (length answers - i) (answers_of layer (drop p prices) (drop s stamps) (drop at sheet) (drop i sizes))))
 
 abbrev decreases-loop : tie.decreases-loop
 decreases-loop sizes prices stamps sheet₀ answers₀ layer₀ p₀ s₀ at₀ i₀ sheet answers layer p s at i = length sizes - i
@@ -68,7 +68,7 @@ make-call-requires c κs = search rules
 
 -- a call fills no more rows than a box may count and the sheet has room for
 fit : (c : tie.After-make-call invariant-loop decreases-loop) → let at-loop = c.before.before.before.before.before.before in
-    (c.make-call.result.rows ≤ mostBars) × (at-loop.loop.at + rowBytes * c.make-call.result.rows ≤ length at-loop.loop.sheet)
+    (c.make-call.result.rows ≤ most_bars) × (at-loop.loop.at + row_bytes * c.make-call.result.rows ≤ length at-loop.loop.sheet)
 fit c =
     let inside = c.before.before.before.before.before in
     let at-loop = inside.before in
@@ -131,7 +131,7 @@ same-length-2 : tie.Need-same-length-2 invariant-loop decreases-loop
 same-length-2 c = search rules
 
 returns : tie.Need-returns invariant-loop decreases-loop
-unfolding sheetThrough answersOf
+unfolding sheet_through answers_of
 returns c =
     let at-loop = c.before in
     let start = at-loop.before.before.before.before.before.before in

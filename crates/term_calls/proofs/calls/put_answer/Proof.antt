@@ -6,7 +6,7 @@ use native.Mathlib.Omega.{arith}
 use lib.ListN.{length, set}
 use lib.Seq.{take_all}
 use Rattle.measures.proofs.Overlay.{overlay-none, overlay-next}
-use Rattle.term_calls.specs.TermCalls.{answerBy}
+use Rattle.term_calls.specs.TermCalls.{answer_by}
 use borrow.Author.Rules.{rules}
 use Rattle.term_calls.proofs.calls.put_answer.Statement.{statement}
 use Rattle.term_calls.proofs.calls.put_answer.Tie as tie
@@ -28,7 +28,7 @@ returns c =
     let start = c.before.before.before in
     let args = start.args in
     let within = c.before.if1.true in
-    let x = answerBy args.v args.rows in
+    let x = answer_by args.v args.rows in
     let one = take_all (length args.answers.now - args.i) (x ∷ []) (omega arith) in
     rw (c.answer-number.ensures, one) (ap (λ (xs : List ℕ). set xs args.i x) (sym (overlay-none args.answers.now args.i)) ∙ overlay-next args.answers.now args.i [] x args.i (omega arith) within)
 

@@ -1,5 +1,5 @@
 -- By the last stamp. Assumes nothing.
-use Rattle.term_events.specs.EventSteps.{endAfter}
+use Rattle.term_events.specs.EventSteps.{end_after}
 use borrow.Author.Rules.{rules}
 use Rattle.term_events.proofs.events.end_after.Statement.{statement}
 use Rattle.term_events.proofs.events.end_after.Tie as tie
@@ -14,11 +14,11 @@ end-of-requires : tie.Need-end-of-requires
 end-of-requires c κs = search rules
 
 returns : tie.Need-returns
-unfolding endAfter
+unfolding end_after
 returns c = simp c.enum_told.given.1
 
 returns-2 : tie.Need-returns-2
-unfolding endAfter
+unfolding end_after
 returns-2 c = simp (c.before.before.last.given.1, c.end_of_lem.ensures)
 
 pub end-after-spec : {M : Type 1} → statement M

@@ -1,5 +1,5 @@
 -- The code is the definition. Assumes nothing.
-use Rattle.term_events.specs.Events.{joinedBar}
+use Rattle.term_events.specs.Events.{joined_bar}
 use borrow.Author.Rules.{rules}
 use Rattle.term_events.proofs.events.join.Statement.{statement}
 use Rattle.term_events.proofs.events.join.Tie as tie
@@ -11,7 +11,7 @@ min-requires : tie.Need-min-requires
 min-requires c κs = search rules
 
 returns : tie.Need-returns
-unfolding joinedBar
+unfolding joined_bar
 returns c = simp (c.before.max.ensures, c.min.ensures)
 
 pub join-spec : {M : Type 1} → statement M

@@ -8,17 +8,17 @@ use Prim.Native.Nat.{◌+◌, ◌-◌, ◌/◌, ◌≤◌}
 use lib.Dec.{eqb}
 use lib.Ieee.{Float}
 use lib.ListN.{length, get_or, drop}
-use Rattle.measures.specs.Bar.{barsOf}
+use Rattle.measures.specs.Bar.{bars_of}
 use Rattle.term_events.specs.declared.events.Passed.{Passed}
-use Rattle.term_events.specs.Events.{openBars}
-use Rattle.term_events.specs.EventSteps.{endAfter, nextEnd, someIn, putEnded, passedWith, passOf}
+use Rattle.term_events.specs.Events.{open_bars}
+use Rattle.term_events.specs.EventSteps.{end_after, next_end, some_in, put_ended, passed_with, pass_of}
 use Rattle.term_events.proofs.EventLaws.{few-in}
 use Rattle.term_events.proofs.StepLaws.{pass-next, pass-past}
 use Rattle.term_events.proofs.events.pass.Statement.{statement}
 use Rattle.term_events.proofs.events.pass.Tie as tie
 
 abbrev invariant-loop : tie.invariant-loop
-invariant-loop h m prices stamps from run₀ room carried₀ end₀ k₀ count₀ run carried end k count = (count ≤ k) × (length run ≡ length run₀) × (passOf h m (barsOf prices) carried₀ (endAfter h m carried₀.last) from 0 run₀ (drop from stamps) ≡ passOf h m (barsOf prices) carried end k count run (drop k stamps))
+invariant-loop h m prices stamps from run₀ room carried₀ end₀ k₀ count₀ run carried end k count = (count ≤ k) × (length run ≡ length run₀) × (pass_of h m (bars_of prices) carried₀ (end_after h m carried₀.last) from 0 run₀ (drop from stamps) ≡ pass_of h m (bars_of prices) carried end k count run (drop k stamps))
 
 abbrev decreases-loop : tie.decreases-loop
 decreases-loop h m prices stamps from run₀ room carried₀ end₀ k₀ count₀ run carried end k count = length stamps - k
@@ -52,13 +52,13 @@ stepped-on : (c : tie.After-step-by invariant-loop decreases-loop) → let at = 
     let args = c.before.before.before.before.before.before.before.before.before.args in
     let s = get_or args.stamps.now at.k 0 in
     let step = c.step_by.result in
-    let bars = barsOf args.prices.now in
-    passOf args.h args.m bars args.c (endAfter args.h args.m args.c.last) args.from 0 args.run.now (drop args.from args.stamps.now) ≡ cond (someIn step.ended && eqb at.count (length at.run / 4)) (passedWith at.k at.count at.carried, at.run) (passOf args.h args.m bars step.carried (nextEnd args.h args.m at.end s) (at.k + 1) (at.count + length (openBars step.ended)) (putEnded at.run at.count step.ended) (drop (at.k + 1) args.stamps.now))
+    let bars = bars_of args.prices.now in
+    pass_of args.h args.m bars args.c (end_after args.h args.m args.c.last) args.from 0 args.run.now (drop args.from args.stamps.now) ≡ cond (some_in step.ended && eqb at.count (length at.run / 4)) (passed_with at.k at.count at.carried, at.run) (pass_of args.h args.m bars step.carried (next_end args.h args.m at.end s) (at.k + 1) (at.count + length (open_bars step.ended)) (put_ended at.run at.count step.ended) (drop (at.k + 1) args.stamps.now))
 stepped-on c =
     let inside = c.before.before.before in
     let at = inside.before.loop in
     let args = inside.before.before.before.before.before.before.args in
-    at.invariant.2 ∙ pass-next args.h args.m (barsOf args.prices.now) at.carried at.end at.k at.count at.run args.stamps.now inside.loop-test.true c.step_by.result (c.step_by.ensures ∙ rw c.before.bar-or-none.ensures)
+    at.invariant.2 ∙ pass-next args.h args.m (bars_of args.prices.now) at.carried at.end at.k at.count at.run args.stamps.now inside.loop-test.true c.step_by.result (c.step_by.ensures ∙ rw c.before.bar-or-none.ensures)
 
 returns : tie.Need-returns invariant-loop decreases-loop
 returns c =
@@ -110,7 +110,7 @@ returns-2 : tie.Need-returns-2 invariant-loop decreases-loop
 returns-2 c =
     let at = c.before.loop in
     let args = c.before.before.before.before.before.before.args in
-    let e = at.invariant.2 ∙ pass-past args.h args.m (barsOf args.prices.now) at.carried at.end at.k at.count at.run args.stamps.now c.loop-test.false in
+    let e = at.invariant.2 ∙ pass-past args.h args.m (bars_of args.prices.now) at.carried at.end at.k at.count at.run args.stamps.now c.loop-test.false in
     (sym (ap (λ (x : Passed × List Float). x.0) e), sym (ap (λ (x : Passed × List Float). x.1) e))
 
 pub pass_spec : {M : Type 1} → statement M

@@ -1,5 +1,5 @@
 -- The code is the definition. Assumes nothing.
-use Rattle.term_events.specs.Verdicts.{validLayer}
+use Rattle.term_events.specs.Verdicts.{valid_layer}
 use borrow.Author.Rules.{rules}
 use Rattle.term_events.proofs.verdicts.layer_valid.Statement.{statement}
 use Rattle.term_events.proofs.verdicts.layer_valid.Tie as tie
@@ -14,7 +14,7 @@ sound-requires : tie.Need-sound-requires
 sound-requires c κs = search rules
 
 returns : tie.Need-returns
-unfolding validLayer
+unfolding valid_layer
 returns c = simp (c.sound.ensures, c.before.term-length.ensures, c.before.before.hours-valid.ensures)
 
 pub layer-valid-spec : {M : Type 1} → statement M

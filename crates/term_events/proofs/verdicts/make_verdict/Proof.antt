@@ -1,8 +1,8 @@
 -- The tests are those of the definition, in its order. Assumes nothing.
 use mathlib.Core.Path.{◌∙◌, sym}
 use borrow.Author.Tests.{not-true, not-false}
-use Rattle.recognisers.specs.Refusal.{firstTrue}
-use Rattle.term_events.specs.Verdicts.{makeVerdict}
+use Rattle.recognisers.specs.Refusal.{first_true}
+use Rattle.term_events.specs.Verdicts.{make_verdict}
 use borrow.Author.Rules.{rules}
 use Rattle.term_events.proofs.verdicts.make_verdict.Statement.{statement}
 use Rattle.term_events.proofs.verdicts.make_verdict.Tie as tie
@@ -11,7 +11,7 @@ is-valid-requires : tie.Need-is-valid-requires
 is-valid-requires c κs = search rules
 
 returns : tie.Need-returns
-unfolding makeVerdict firstTrue
+unfolding make_verdict first_true
 returns c =
     let v = c.before in
     simp (sym v.is-valid.ensures ∙ not-true v.is-valid.result c.if1.true)
@@ -20,7 +20,7 @@ layer-valid-requires : tie.Need-layer-valid-requires
 layer-valid-requires c κs = search rules
 
 returns-2 : tie.Need-returns-2
-unfolding makeVerdict firstTrue
+unfolding make_verdict first_true
 returns-2 c =
     let w = c.before in
     let v = w.before.before in
@@ -29,7 +29,7 @@ returns-2 c =
     simp (valid, layer)
 
 returns-3 : tie.Need-returns-3
-unfolding makeVerdict firstTrue
+unfolding make_verdict first_true
 returns-3 c =
     let w = c.before in
     let v = w.before.before in

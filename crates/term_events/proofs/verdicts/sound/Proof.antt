@@ -1,5 +1,5 @@
 -- By the last stamp and the open bar. Assumes nothing.
-use Rattle.term_events.specs.Verdicts.{soundCarried}
+use Rattle.term_events.specs.Verdicts.{sound_carried}
 use borrow.Author.Rules.{rules}
 use Rattle.term_events.proofs.verdicts.sound.Statement.{statement}
 use Rattle.term_events.proofs.verdicts.sound.Tie as tie
@@ -20,15 +20,15 @@ enum-told-3 : tie.Need-enum-told-3
 enum-told-3 c = search rules
 
 returns : tie.Need-returns
-unfolding soundCarried
+unfolding sound_carried
 returns c = simp (c.before.before.last.given.1, c.in-hours.ensures)
 
 returns-2 : tie.Need-returns-2
-unfolding soundCarried
+unfolding sound_carried
 returns-2 c = simp (c.before.before.enum_told.given.1, c.enum-told2.given.1)
 
 returns-3 : tie.Need-returns-3
-unfolding soundCarried
+unfolding sound_carried
 returns-3 c = simp (c.before.before.enum_told.given.1, c.enum-told3.given.1)
 
 pub sound-spec : {M : Type 1} → statement M

@@ -5,18 +5,18 @@ use mathlib.Core.Bool.{true}
 use Prim.Native.Nat.{◌-◌, ◌≤◌}
 use borrow.Author.Tests.{not-true, not-false}
 use lib.ListN.{length, get_or, drop}
-use Rattle.recognisers.specs.Refusal.{firstTrue}
-use Rattle.term_events.specs.Verdicts.{above, stampsTried}
-use Rattle.trading_hours.specs.Hours.{inHours}
+use Rattle.recognisers.specs.Refusal.{first_true}
+use Rattle.term_events.specs.Verdicts.{above, stamps_tried}
+use Rattle.trading_hours.specs.Hours.{in_hours}
 use Rattle.trading_hours.specs.TermRule.{end_of}
-use Rattle.term_events.specs.EventSteps.{EndKnown, insideBy, nextEnd}
+use Rattle.term_events.specs.EventSteps.{EndKnown, inside_by, next_end}
 use Rattle.term_events.proofs.StampLaws.{stamps-late, stamps-outside, stamps-next, stamps-past}
 use Rattle.term_events.proofs.StepLaws.{end-next, inside_is, next-end-is}
 use Rattle.term_events.proofs.verdicts.stamps_verdict.Statement.{statement}
 use Rattle.term_events.proofs.verdicts.stamps_verdict.Tie as tie
 
 abbrev invariant-loop : tie.invariant-loop
-invariant-loop h m stamps last₀ end₀ i₀ last end i = (i ≤ length stamps) × (firstTrue (stampsTried h last₀ stamps) ≡ firstTrue (stampsTried h last (drop i stamps))) × (EndKnown h m last end)
+invariant-loop h m stamps last₀ end₀ i₀ last end i = (i ≤ length stamps) × (first_true (stamps_tried h last₀ stamps) ≡ first_true (stamps_tried h last (drop i stamps))) × (EndKnown h m last end)
 
 abbrev decreases-loop : tie.decreases-loop
 decreases-loop h m stamps last₀ end₀ i₀ last end i = length stamps - i
@@ -55,7 +55,7 @@ up c = let asked = c.before in sym asked.is-above.ensures ∙ not-false asked.is
 by_end : (c : tie.Else1 invariant-loop decreases-loop) → let at = c.before.before.before.before.loop in
     let args = c.before.before.before.before.before.before.before.args in
     let stamp = get_or args.stamps.now at.i 0 in
-    (insideBy args.h at.end stamp ≡ inHours args.h stamp) × (nextEnd args.h args.m at.end stamp ≡ end_of args.h args.m stamp)
+    (inside_by args.h at.end stamp ≡ in_hours args.h stamp) × (next_end args.h args.m at.end stamp ≡ end_of args.h args.m stamp)
 by_end c =
     let at = c.before.before.before.before.loop in
     let args = c.before.before.before.before.before.before.before.args in

@@ -1,7 +1,7 @@
 -- One feed of the bar. Assumes nothing.
 use mathlib.Core.Path.{◌≡◌, ◌∙◌}
 use mathlib.Core.List.{[], ◌∷◌}
-use Rattle.measures.specs.Bar.{pricesOf, putBar}
+use Rattle.measures.specs.Bar.{prices_of, put_bar}
 use borrow.Author.Rules.{rules}
 use Rattle.terms.proofs.calls.feed_one.Statement.{statement}
 use Rattle.terms.proofs.calls.feed_one.Tie as tie
@@ -22,11 +22,11 @@ same_length : tie.Need-same-length
 same_length c = search rules
 
 returns : tie.Need-returns
-unfolding pricesOf putBar
+unfolding prices_of put_bar
 returns c =
     let fed = c.before.before in
     let put = fed.before.before.before.before in
-    let prices : put.put-bar.new.1.0 ≡ pricesOf (put.before.before.before.args.bar ∷ []) = put.put-bar.ensures in
+    let prices : put.put-bar.new.1.0 ≡ prices_of (put.before.before.before.args.bar ∷ []) = put.put-bar.ensures in
     let made = fed.feed.ensures in
     (rw (made.0, prices), made.1.0 ∙ rw prices)
 

@@ -1,6 +1,6 @@
 -- By the verdict; the thresholds that are chosen are inside their limits. Assumes nothing.
 use mathlib.Core.Path.{ap, sym}
-use Rattle.recognisers.specs.Refusal.{verdictNumber}
+use Rattle.recognisers.specs.Refusal.{verdict_number}
 use Rattle.box_record.specs.declared.boxes.Outcome.{Outcome}
 use Rattle.terms.proofs.TakeLaws.{made-is}
 use borrow.Author.Rules.{rules}
@@ -36,7 +36,7 @@ returns c =
     let box = ap (λ (o : Outcome). o.after) made.make.ensures.0 in
     let told = call.make-verdict.ensures in (
       rw (c.fresh.ensures, day.hours-by.ensures, length.minutes-by.ensures, box, chosen.thresholds-by.ensures) (made-is args.t args.h args.m _ (sym told)),
-      ap verdictNumber told,
+      ap verdict_number told,
     )
 
 pub make_spec : {M : Type 1} → statement M

@@ -1,10 +1,10 @@
 -- Nothing of a refused run is taken in; of an accepted one first the bars that end no term bar, and then the others. Assumes nothing.
 use mathlib.Core.Path.{◌≡◌, ap, sym, ◌∙◌}
 use lib.ListN.{length, length-map}
-use Rattle.recognisers.specs.Refusal.{verdictNumber}
+use Rattle.recognisers.specs.Refusal.{verdict_number}
 use Rattle.recognisers.specs.Number.{places}
 use Rattle.terms.specs.declared.calls.Progress.{Progress}
-use Rattle.terms.specs.Layer.{layerWith, taken, runVerdictOf}
+use Rattle.terms.specs.Layer.{layer_with, taken, run_verdict_of}
 use Rattle.terms.proofs.TakeLaws.{Front, front-is}
 use borrow.Author.Rules.{rules}
 use Rattle.terms.proofs.calls.run.Statement.{statement}
@@ -27,7 +27,7 @@ pass-requires c κs = search rules
 
 -- the verdict
 told : (c : tie.After-run-verdict) → let args = c.before.before.before.before.before.before.before.before.args in
-    c.run-verdict.result ≡ runVerdictOf args.l (length args.prices.now) args.stamps.now (length args.sheet.now)
+    c.run-verdict.result ≡ run_verdict_of args.l (length args.prices.now) args.stamps.now (length args.sheet.now)
 told c = c.run-verdict.ensures ∙ rw c.before.is_right.ensures
 
 -- what the first part leaves
@@ -45,7 +45,7 @@ returns : tie.Need-returns
 returns c =
     let passed = c.before.before.before.before in
     let is = (front passed).quiet c.if1.true in
-    (is.0, (is.1, ap verdictNumber (told passed.before.before.before)))
+    (is.0, (is.1, ap verdict_number (told passed.before.before.before)))
 
 take-bars-requires : tie.Need-take-bars-requires
 take-bars-requires c κs = let later = (front c.before.before.before.before.before).later c.before.if1.false in (later.ready, later.each, later.within, later.feed)
@@ -61,8 +61,8 @@ returns-2 c =
     let call = passed.before.before.before in
     let l = call.before.before.before.before.before.before.before.before.args.l in
     let later = (front passed).later other.if1.false in (
-      ap (λ (p : Progress). taken call.run-verdict.result p.rows (layerWith l.hours l.minutes p.carried p.inner)) took.0 ∙ later.ran,
-      (took.1 ∙ later.written, ap verdictNumber (told call)),
+      ap (λ (p : Progress). taken call.run-verdict.result p.rows (layer_with l.hours l.minutes p.carried p.inner)) took.0 ∙ later.ran,
+      (took.1 ∙ later.written, ap verdict_number (told call)),
     )
 
 pub run_spec : {M : Type 1} → statement M

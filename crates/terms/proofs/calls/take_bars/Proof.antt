@@ -4,22 +4,22 @@ use mathlib.Core.Path.{◌≡◌, refl, sym, ◌∙◌}
 use native.Mathlib.Omega.{arith}
 use borrow.Author.Rules.{rules}
 use lib.ListN.{length, length-map, take, length-append}
-use Rattle.measures.specs.Bar.{barsOf, overlay}
+use Rattle.measures.specs.Bar.{bars_of, overlay}
 use Rattle.measures.proofs.Overlay.{overlay-none}
 use Rattle.recognisers.specs.Number.{places}
 use Rattle.bar_box.specs.Sheet.{rows_of}
-use Rattle.bar_box.specs.Box.{kept, isRight, takenIn}
+use Rattle.bar_box.specs.Box.{kept, is_right, taken_in}
 use Rattle.bar_box.proofs.BoxLaws.{taken_none, taken-append, right-taken}
 use Rattle.bar_box.proofs.FeedSteps.{fits}
 use Rattle.bar_box.proofs.PartLaws.{rows_both}
-use Rattle.terms.proofs.PartLaws.{endedTo, carriedTo, PartFits, part-fits, none-ended, none-carried, all-passed}
+use Rattle.terms.proofs.PartLaws.{ended_to, carried_to, PartFits, part-fits, none-ended, none-carried, all-passed}
 use Rattle.terms.proofs.calls.take_bars.Statement.{statement}
 use Rattle.terms.proofs.calls.take_bars.Tie as tie
 
 abbrev invariant-loop : tie.invariant-loop
 invariant-loop h m prices stamps from sheet₀ run₀ carried₀ inner₀ rows₀ done₀ sheet run carried inner rows done =
-    let ended = endedTo h m carried₀ prices stamps from done in
-    (from ≤ done) × (done ≤ length stamps) × (length sheet ≡ length sheet₀) × (length run ≡ 128) × (carried ≡ carriedTo h m carried₀ prices stamps from done) × (inner ≡ takenIn inner₀ ended) × (rows ≡ length ended) × (sheet ≡ overlay sheet₀ 0 (rows_of inner₀.thresholds inner₀.count (kept inner₀) ended))
+    let ended = ended_to h m carried₀ prices stamps from done in
+    (from ≤ done) × (done ≤ length stamps) × (length sheet ≡ length sheet₀) × (length run ≡ 128) × (carried ≡ carried_to h m carried₀ prices stamps from done) × (inner ≡ taken_in inner₀ ended) × (rows ≡ length ended) × (sheet ≡ overlay sheet₀ 0 (rows_of inner₀.thresholds inner₀.count (kept inner₀) ended))
 
 abbrev decreases-loop : tie.decreases-loop
 decreases-loop h m prices stamps from sheet₀ run₀ carried₀ inner₀ rows₀ done₀ sheet run carried inner rows done = length stamps - done
@@ -44,7 +44,7 @@ loop-holds c =
 -- what is known of the part that was passed
 part : (c : tie.After-pass invariant-loop decreases-loop) → let at = c.before.before.before.loop in
     let args = c.before.before.before.before.before.before.before.args in
-    PartFits args.h args.m args.c args.prices.now args.stamps.now args.from args.b.thresholds args.b.count (isRight args.b) (length args.sheet.now) at.done c.pass.result c.pass.new.1.1.1.1.1.1.0
+    PartFits args.h args.m args.c args.prices.now args.stamps.now args.from args.b.thresholds args.b.count (is_right args.b) (length args.sheet.now) at.done c.pass.result c.pass.new.1.1.1.1.1.1.0
 part c =
     let inside = c.before.before in
     let at = inside.before.loop in
@@ -72,8 +72,8 @@ feed-front-requires c κs =
     let b = args.b in
     let all : length b.bars ≡ places = simp length-map at start.well-formed.0.1.1.1.1.1.0.1.0.1 in
     let right = (fits _ _ _ _ _ start.requires.3).right-box in
-    let old = endedTo args.h args.m args.c args.prices.now args.stamps.now args.from at.done in
-    let stays : isRight (takenIn b old) ≡ isRight b = right-taken b all right old ∙ sym right in
+    let old = ended_to args.h args.m args.c args.prices.now args.stamps.now args.from at.done in
+    let stays : is_right (taken_in b old) ≡ is_right b = right-taken b all right old ∙ sym right in
     let fit = part passed in
     (rw (inv.5, stays) fit.accepted, (fit.enough, omega (arith, fit.room)))
 
@@ -96,8 +96,8 @@ loop-again c =
     let b = args.b in
     let inv = at.invariant in
     let fit = part passed in
-    let old = endedTo args.h args.m args.c args.prices.now args.stamps.now args.from at.done in
-    let new = barsOf (take (4 * passed.pass.result.count) passed.pass.new.1.1.1.1.1.1.0) in
+    let old = ended_to args.h args.m args.c args.prices.now args.stamps.now args.from at.done in
+    let new = bars_of (take (4 * passed.pass.result.count) passed.pass.new.1.1.1.1.1.1.0) in
     let all : length b.bars ≡ places = simp length-map at start.well-formed.0.1.1.1.1.1.0.1.0.1 in (
       omega (arith, fit.some),
       fit.within,

@@ -1,11 +1,11 @@
 -- `replay::thresholds::read` meets its contract. Assumes nothing.
-use Rattle.test_replay.specs.Thresholds.{thresholdsOf}
+use Rattle.test_replay.specs.Thresholds.{thresholds_of}
 use Rattle.std.proofs.Common.{rules}
 use Rattle.test_replay.proofs.threshold_bytes.read.Statement.{statement}
 use Rattle.test_replay.proofs.threshold_bytes.read.Tie as tie
 
 returns : tie.Need-returns
-unfolding thresholdsOf
+unfolding thresholds_of
 returns c =
     simp (
       c.before.before.before.before.before.before.before.before.before.before.before.before.f64-at.ensures,

@@ -2,9 +2,9 @@
 use native.Mathlib.Omega.{arith}
 use borrow.Author.Rules.{rules}
 use lib.ListN.{length-take}
-use Rattle.recognisers.specs.Refusal.{firstTrue}
+use Rattle.recognisers.specs.Refusal.{first_true}
 use Rattle.input_lines.specs.Lines.{comma}
-use Rattle.text.specs.LineText.{lineVerdict, said_of, fieldsLine}
+use Rattle.text.specs.LineText.{line_verdict, said_of, fields_line}
 use Rattle.input_lines.proofs.LineLaws.{pieces_whole, pieces-cut}
 use Rattle.text.proofs.line_text.after_open.Statement.{statement}
 use Rattle.text.proofs.line_text.after_open.Tie as tie
@@ -38,7 +38,7 @@ returns c =
     rw (pieces-cut comma s piece.piece-end.result piece.piece-end.ensures.0 comma-found.if1.true) c.after-close.ensures
 
 returns-2 : tie.Need-returns-2
-unfolding fieldsLine said_of lineVerdict firstTrue
+unfolding fields_line said_of line_verdict first_true
 returns-2 c =
     let piece = c.before in
     let s = piece.before.before.before.args.s.now in

@@ -1,7 +1,7 @@
 -- Each price in its turn. Assumes nothing.
 use borrow.Author.Rules.{rules}
-use Rattle.recognisers.specs.Refusal.{firstTrue}
-use Rattle.text.specs.LineText.{allPrices, pricesBefore, lineVerdict, said_of}
+use Rattle.recognisers.specs.Refusal.{first_true}
+use Rattle.text.specs.LineText.{all_prices, prices_before, line_verdict, said_of}
 use Rattle.text.proofs.line_text.four.Statement.{statement}
 use Rattle.text.proofs.line_text.four.Tie as tie
 
@@ -12,7 +12,7 @@ enum_told : tie.Need-enum-told
 enum_told c = search rules
 
 returns : tie.Need-returns
-unfolding allPrices pricesBefore lineVerdict said_of firstTrue
+unfolding all_prices prices_before line_verdict said_of first_true
 returns c = rw c.enum_told.given.1
 
 enum-known-close : tie.Need-enum-known-close
@@ -22,7 +22,7 @@ enum-told-2 : tie.Need-enum-told-2
 enum-told-2 c = search rules
 
 returns-2 : tie.Need-returns-2
-unfolding allPrices pricesBefore lineVerdict said_of firstTrue
+unfolding all_prices prices_before line_verdict said_of first_true
 returns-2 c = rw (c.before.before.before.«open».given.1, c.enum-told2.given.1)
 
 enum-known-high : tie.Need-enum-known-high
@@ -32,7 +32,7 @@ enum-told-3 : tie.Need-enum-told-3
 enum-told-3 c = search rules
 
 returns-3 : tie.Need-returns-3
-unfolding allPrices pricesBefore lineVerdict said_of firstTrue
+unfolding all_prices prices_before line_verdict said_of first_true
 returns-3 c =
     let close = c.before.before.before in
     rw (close.before.before.before.«open».given.1, close.close.given.1, c.enum-told3.given.1)
@@ -44,14 +44,14 @@ enum-told-4 : tie.Need-enum-told-4
 enum-told-4 c = search rules
 
 returns-4 : tie.Need-returns-4
-unfolding allPrices pricesBefore lineVerdict said_of firstTrue
+unfolding all_prices prices_before line_verdict said_of first_true
 returns-4 c =
     let high = c.before.before.before in
     let close = high.before.before.before in
     rw (close.before.before.before.«open».given.1, close.close.given.1, high.high.given.1, c.enum-told4.given.1)
 
 returns-5 : tie.Need-returns-5
-unfolding allPrices lineVerdict said_of firstTrue
+unfolding all_prices line_verdict said_of first_true
 returns-5 c =
     let low = c.before in
     let high = low.before.before.before in

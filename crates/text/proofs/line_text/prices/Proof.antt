@@ -1,6 +1,6 @@
 -- Four prices, read from left to right. Assumes nothing.
 use borrow.Author.Rules.{rules}
-use Rattle.text.specs.LineText.{fieldsLine}
+use Rattle.text.specs.LineText.{fields_line}
 use Rattle.text.proofs.line_text.prices.Statement.{statement}
 use Rattle.text.proofs.line_text.prices.Tie as tie
 
@@ -20,7 +20,7 @@ four-requires : tie.Need-four-requires
 four-requires c κs = search rules
 
 returns : tie.Need-returns
-unfolding fieldsLine
+unfolding fields_line
 returns c =
     let low = c.before in
     let high = low.before in

@@ -2,10 +2,10 @@
 use native.Mathlib.Omega.{arith}
 use borrow.Author.Rules.{rules}
 use lib.ListN.{length-take}
-use Rattle.recognisers.specs.Refusal.{firstTrue}
+use Rattle.recognisers.specs.Refusal.{first_true}
 use Rattle.text.specs.declared.line_text.Line.TheVariants.{BadShape}
 use Rattle.input_lines.specs.Lines.{comma}
-use Rattle.text.specs.LineText.{lineVerdict, said_of, line_of, fieldsLine}
+use Rattle.text.specs.LineText.{line_verdict, said_of, line_of, fields_line}
 use Rattle.input_lines.proofs.LineLaws.{pieces_whole, pieces-cut}
 use Rattle.text.proofs.LineTextLaws.{too_long, short-enough, answered}
 use Rattle.text.proofs.line_text.read_line.Statement.{statement}
@@ -37,7 +37,7 @@ after-open-requires : tie.Need-after-open-requires
 after-open-requires c κs = search rules
 
 returns-2 : tie.Need-returns-2
-unfolding line_of fieldsLine
+unfolding line_of fields_line
 returns-2 c =
     let comma-found = c.before.before.before in
     let piece = comma-found.before in
@@ -47,7 +47,7 @@ returns-2 c =
     c.after_open.ensures)
 
 returns-3 : tie.Need-returns-3
-unfolding line_of said_of lineVerdict firstTrue
+unfolding line_of said_of line_verdict first_true
 returns-3 c =
     let piece = c.before in
     let s = piece.before.before.before.args.s.now in

@@ -3,7 +3,7 @@ use mathlib.Core.Path.{◌≡◌}
 use Prim.Native.Nat.{min}
 use lib.ListN.{length, length-map, length-take}
 use Rattle.measures.proofs.RunLaws.{take-least}
-use Rattle.trading_hours.specs.Hours.{inHours, windowsOf, minuteOf}
+use Rattle.trading_hours.specs.Hours.{in_hours, windows_of, minute_of}
 use Rattle.trading_hours.proofs.HourLaws.{any_place}
 use borrow.Author.Rules.{rules}
 use Rattle.trading_hours.proofs.hours.in_hours.Statement.{statement}
@@ -19,7 +19,7 @@ place-in-requires : tie.Need-place-in-requires
 place-in-requires c κs = search rules
 
 returns : tie.Need-returns
-unfolding inHours
+unfolding in_hours
 returns c =
     let start = c.before.before.before.before in
     let h = start.args.h in
@@ -27,8 +27,8 @@ returns c =
     let n = c.before.least.ensures in
     let full : length h.windows ≡ 4 = simp length-map at start.well-formed.0.1.1.0.1.0.1 in
     let ws = take-least h.count 4 h.windows full in
-    let size : length (windowsOf h) ≡ min h.count 4 = rw (length-take, full) in
-    rw (found, n, ws, any_place (windowsOf h) (minuteOf start.args.stamp), size)
+    let size : length (windows_of h) ≡ min h.count 4 = rw (length-take, full) in
+    rw (found, n, ws, any_place (windows_of h) (minute_of start.args.stamp), size)
 
 pub in-hours-spec : {M : Type 1} → statement M
 in-hours-spec = tie.close (tie.spec cast-least least-requires place-in-requires returns)

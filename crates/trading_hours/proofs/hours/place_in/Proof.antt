@@ -6,7 +6,7 @@ use native.Mathlib.Nat.{zero-add}
 use borrow.Author.Rules.{rules}
 use lib.ListN.{length, take, drop}
 use lib.Seq.{get_or-take, length-take-le}
-use Rattle.trading_hours.specs.Hours.{mostWindows, place_of, noWindow}
+use Rattle.trading_hours.specs.Hours.{most_windows, place_of, no_window}
 use Rattle.trading_hours.proofs.HourLaws.{place-next, place_found, place-past}
 use Rattle.trading_hours.proofs.hours.place_in.Statement.{statement}
 use Rattle.trading_hours.proofs.hours.place_in.Tie as tie
@@ -30,7 +30,7 @@ array-copy-out-w c = search rules
 size : (c : tie.At-loop invariant-loop decreases-loop) → let args = c.before.args in length (take args.n args.t1) ≡ args.n
 size c =
     let start = c.before in
-    let full : length start.args.t1 ≡ mostWindows = start.well-formed.0.1.0.1 in
+    let full : length start.args.t1 ≡ most_windows = start.well-formed.0.1.0.1 in
     length-take-le start.args.n start.args.t1 (omega arith)
 
 returns : tie.Need-returns invariant-loop decreases-loop
@@ -40,7 +40,7 @@ returns c =
     let args = inside.before.before.args in
     let all = size inside.before in
     let within = inside.loop-test.true in
-    let test = rw (← get_or-take args.n args.t1 at.i noWindow within) at c.if1.true in
+    let test = rw (← get_or-take args.n args.t1 at.i no_window within) at c.if1.true in
     let found = place_found (take args.n args.t1) at.i args.minute (omega arith) test in
     omega (arith, at.invariant.1)
 
@@ -57,7 +57,7 @@ loop-again c =
     let args = inside.before.before.args in
     let all = size inside.before in
     let within = inside.loop-test.true in
-    let test = rw (← get_or-take args.n args.t1 at.i noWindow within) at c.if1.false in
+    let test = rw (← get_or-take args.n args.t1 at.i no_window within) at c.if1.false in
     let next = place-next (take args.n args.t1) at.i args.minute (omega arith) test in
     (search rules, omega (arith, at.invariant.1))
 

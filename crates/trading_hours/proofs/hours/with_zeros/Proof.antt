@@ -2,7 +2,7 @@
 use mathlib.Core.Path.{◌≡◌}
 use lib.ListN.{length, length-map}
 use Rattle.measures.proofs.RunLaws.{take-least}
-use Rattle.trading_hours.specs.Hours.{withZeros}
+use Rattle.trading_hours.specs.Hours.{with_zeros}
 use Rattle.trading_hours.proofs.HourLaws.{zeros-places}
 use borrow.Author.Rules.{rules}
 use Rattle.trading_hours.proofs.hours.with_zeros.Statement.{statement}
@@ -27,7 +27,7 @@ window-at-requires-4 : tie.Need-window-at-requires-4
 window-at-requires-4 c κs = search rules
 
 returns : tie.Need-returns
-unfolding withZeros
+unfolding with_zeros
 returns c =
     let third = c.before in
     let second = third.before in
