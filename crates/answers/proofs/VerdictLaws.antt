@@ -11,11 +11,10 @@ use Rattle.answers.specs.declared.refusals.Verdict.TheVariants.{Accepted, Denied
 use Rattle.answers.specs.Refusal.{Tried, first_true, feed_tried, feed_verdict}
 
 -- none of refusals 3 to 6 is true
-pub record Fits (t : Thresholds) (n : ℕ) (right : Bool) (prices sheet : ℕ) : Type 0 where
+pub record Fits (t : Thresholds) (n prices sheet : ℕ) : Type 0 where
   pub valid : valid_of t ≡ true
   pub whole : prices % 4 ≡ 0
   pub few : n + prices / 4 ≤ most_bars
-  pub right-box : right ≡ true
   pub room : row_bytes * (prices / 4) ≤ sheet
 
 -- where no refusal is true, the first is not and none of the others is
@@ -28,23 +27,16 @@ none_true x xs = go x.met refl
     go false e none = (e, none)
 
 -- an accepted feed meets them
-pub fits : (t : Thresholds) (n : ℕ) (right : Bool) (prices sheet : ℕ) → feed_verdict t n right prices sheet ≡ Accepted → Fits t n right prices sheet
+pub fits : (t : Thresholds) (n prices sheet : ℕ) → feed_verdict t n prices sheet ≡ Accepted → Fits t n prices sheet
 unfolding feed_verdict feed_tried
-fits t n right prices sheet none =
+fits t n prices sheet none =
     let three = none_true _ _ none in
     let four = none_true _ _ three.1 in
     let five = none_true _ _ four.1 in
-    let wrong = none_true _ _ five.1 in
-    let six = none_true _ _ wrong.1 in
-    record {
-      valid = not-false _ three.0;
-      whole = eqb-true _ _ (not-false _ four.0);
-      few = ltb-false _ _ five.0;
-      right-box = not-false _ wrong.0;
-      room = ltb-false _ _ six.0;
-    }
+    let six = none_true _ _ five.1 in
+    record { valid = not-false _ three.0; whole = eqb-true _ _ (not-false _ four.0); few = ltb-false _ _ five.0; room = ltb-false _ _ six.0 }
 
 -- and one that meets them is accepted
-pub accepts : (t : Thresholds) (n : ℕ) (right : Bool) (prices sheet : ℕ) → Fits t n right prices sheet → feed_verdict t n right prices sheet ≡ Accepted
+pub accepts : (t : Thresholds) (n prices sheet : ℕ) → Fits t n prices sheet → feed_verdict t n prices sheet ≡ Accepted
 unfolding feed_verdict feed_tried first_true
-accepts t n right prices sheet f = simp (f.valid, eq-eqb (prices % 4) 0 f.whole, le-ltb most_bars (n + prices / 4) f.few, f.right-box, le-ltb sheet (row_bytes * (prices / 4)) f.room)
+accepts t n prices sheet f = simp (f.valid, eq-eqb (prices % 4) 0 f.whole, le-ltb most_bars (n + prices / 4) f.few, le-ltb sheet (row_bytes * (prices / 4)) f.room)

@@ -53,10 +53,6 @@ broken_bars whole = tried (not whole) BrokenBars
 abbrev pub too_many_bars : ℕ → Tried
 too_many_bars count = tried (ltb most_bars count) TooManyBars
 
--- 5 also covers a box whose held extremes or candidates aren't those of its bars (02, P7); right says that they are.
-abbrev pub wrong_box : Bool → Tried
-wrong_box right = tried (not right) TooManyBars
-
 -- 6. The sheet has fewer than 36 bytes for each bar.
 abbrev pub short_sheet : ℕ → ℕ → Tried
 short_sheet bytes bars = tried (ltb bytes (row_bytes * bars)) ShortSheet
@@ -114,21 +110,22 @@ unfoldable pub plain_verdict : ℕ → ℕ → Thresholds → Bool → ℕ → V
 plain_verdict k di t whole count =
     first_true (unknown_recogniser k ∷ zero_offset di ∷ bad_threshold t ∷ broken_bars whole ∷ too_many_bars count ∷ [])
 
--- a feed tries 3 to 6, with the thresholds and the count N of the box, whether what it holds is right, and the numbers of prices and of sheet
--- bytes that it is lent
-unfoldable pub feed_tried : Thresholds → ℕ → Bool → ℕ → ℕ → List Tried
-feed_tried t n right prices sheet =
-    bad_threshold t ∷ broken_bars (eqb (prices % 4) 0) ∷ too_many_bars (n + prices / 4) ∷ wrong_box right ∷ short_sheet sheet (prices / 4) ∷ []
+-- a feed tries 3 to 6, with the thresholds and the count N of the box, and the numbers of prices and of sheet bytes that it is lent
+unfoldable pub feed_tried : Thresholds → ℕ → ℕ → ℕ → List Tried
+feed_tried t n prices sheet = bad_threshold t ∷ broken_bars (eqb (prices % 4) 0) ∷ too_many_bars (n + prices / 4) ∷ short_sheet sheet (prices / 4) ∷ []
 
-unfoldable pub feed_verdict : Thresholds → ℕ → Bool → ℕ → ℕ → Verdict
-feed_verdict t n right prices sheet = first_true (feed_tried t n right prices sheet)
+unfoldable pub feed_verdict : Thresholds → ℕ → ℕ → ℕ → Verdict
+feed_verdict t n prices sheet = first_true (feed_tried t n prices sheet)
 
--- other calls that are "checked as a feed" try more: 12 next after 3, 4 also for what they say. As the code has it, which knows of these
+-- other calls that are "checked as a feed" try more: 12 next after 3, 4 and 5 also for what they say. As the code has it, which knows of these
 -- whether they are right
 unfoldable pub checked_tried : Thresholds → Bool → ℕ → ℕ → Bool → Bool → ℕ → List Tried
 checked_tried t layer n prices whole right sheet =
-    next_after BadThreshold (bad_layer layer ∷ []) (next_after BrokenBars (broken_bars whole ∷ []) (feed_tried t n right prices sheet))
+    next_after BadThreshold (bad_layer layer ∷ [])
+    (next_after BrokenBars (broken_bars whole ∷ [])
+    (next_after TooManyBars (tried (not right) TooManyBars ∷ [])
+    (feed_tried t n prices sheet)))
 
 -- a look tries 1, 2, 3, 5 and 7
-unfoldable pub look_verdict : ℕ → ℕ → Thresholds → ℕ → Bool → Verdict
-look_verdict k di t n right = first_true (unknown_recogniser k ∷ zero_offset di ∷ bad_threshold t ∷ too_many_bars n ∷ wrong_box right ∷ far_look di ∷ [])
+unfoldable pub look_verdict : ℕ → ℕ → Thresholds → ℕ → Verdict
+look_verdict k di t n = first_true (unknown_recogniser k ∷ zero_offset di ∷ bad_threshold t ∷ too_many_bars n ∷ far_look di ∷ [])

@@ -7,7 +7,7 @@ use rule_types::counts;
 use thresholds::Thresholds;
 
 // The first of the refusals 3 to 6 that is true of a call that is checked as a feed to a box that counts n bars. Three that such a call may
-// try besides the caller has tested: layer says that 12 is not true, whole and right that nothing is that 4 and 5 also cover.
+// try besides the caller has tested: layer says that 12 is not true, whole and right that nothing else is that 4 and 5 also cover.
 pub fn checked(
     t: Thresholds,
     layer: bool,
@@ -45,16 +45,16 @@ pub fn checked(
     Verdict::Accepted
 }
 
-// The first of the refusals 3 to 6 that is true of a feed to a box that counts n bars; right: what it holds is that of its bars.
-pub fn feed_verdict(t: Thresholds, n: u32, right: bool, prices: usize, sheet: usize) -> Verdict
-    ensures { result ≡ feed_verdict t n right prices sheet }
+// The first of the refusals 3 to 6 that is true of a feed to a box that counts n bars.
+pub fn feed_verdict(t: Thresholds, n: u32, prices: usize, sheet: usize) -> Verdict
+    ensures { result ≡ feed_verdict t n prices sheet }
 {
-    checked(t, true, n, prices, true, right, sheet)
+    checked(t, true, n, prices, true, true, sheet)
 }
 
-// The first of the refusals 1, 2, 3, 5 and 7 that is true of a look at such a box.
-pub fn look_verdict(k: u32, di: u32, t: Thresholds, n: u32, right: bool) -> Verdict
-    ensures { result ≡ look_verdict k di t n right }
+// The first of the refusals 1, 2, 3, 5 and 7 that is true of a look at a box that counts n bars.
+pub fn look_verdict(k: u32, di: u32, t: Thresholds, n: u32) -> Verdict
+    ensures { result ≡ look_verdict k di t n }
 {
     if counts::RECOGNISERS <= k as usize {
         return Verdict::Denied(Refusal::UnknownRecogniser);
@@ -67,9 +67,6 @@ pub fn look_verdict(k: u32, di: u32, t: Thresholds, n: u32, right: bool) -> Verd
         return Verdict::Denied(Refusal::BadThreshold);
     }
     if counts::MOST_BARS < n as usize {
-        return Verdict::Denied(Refusal::TooManyBars);
-    }
-    if !right {
         return Verdict::Denied(Refusal::TooManyBars);
     }
     if counts::FARTHEST_LOOK < di {

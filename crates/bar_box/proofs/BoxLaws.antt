@@ -1,9 +1,8 @@
 -- The box, for any 64 places and any count: which bars it keeps after it took bars in, and that bars may be taken in all at once or
 -- one run after the other; and the prices of bars, as a feed is lent them. Assumes nothing.
-use Prim.Native.Nat.{ℕ, zero, suc, ◌+◌, ◌-◌, ◌≤◌, ◌<◌, min}
-use mathlib.Core.Path.{◌≡◌, refl, sym, ap, subst, ◌∙◌}
-use mathlib.Core.Bool.{true}
-use mathlib.Core.List.{List, [], ◌∷◌, ◌++◌, append_assoc, append-nil, map-append}
+use Prim.Native.Nat.{ℕ, zero, suc, ◌+◌, ◌-◌, ◌≤◌, min}
+use mathlib.Core.Path.{◌≡◌, sym, ◌∙◌}
+use mathlib.Core.List.{List, [], ◌++◌, append_assoc, append-nil, map-append}
 use native.Mathlib.Omega.{arith}
 use native.Mathlib.Decide.{dec_le}
 use native.Mathlib.Nat.{add-zero, add_assoc}
@@ -11,15 +10,11 @@ use lib.ListN.{length, drop, replicate, length-append, length-take, length-drop,
 use lib.Seq.{take-append_seam, drop-append-add, drop-drop}
 use Rattle.measures.specs.Bar.{Bar}
 use Rattle.measures.specs.Window.{newest}
-use Rattle.held_extremes.specs.declared.HeldExtremes.{HeldExtremes}
-use Rattle.held_extremes.specs.Candidate.{held_by, held_of}
-use Rattle.held_extremes.proofs.HeldLaws.{held-near}
-use Rattle.held_extremes.proofs.SameLaws.{held-passes}
-use Rattle.recognisers.specs.Number.{quarter_bars, places}
+use Rattle.recognisers.specs.Number.{places}
 use Rattle.box_record.specs.declared.boxes.KeptBar.{KeptBar}
 use Rattle.box_record.specs.declared.boxes.BarBox.{BarBox}
-use Rattle.bar_box.specs.Box.{numbered, held, kept, laid, held_after, is_right, taken_in}
-pub use Rattle.box_record.proofs.RecordLaws.{take_same, newest-few}
+use Rattle.bar_box.specs.Box.{numbered, held, kept, laid, taken_in}
+pub use Rattle.box_record.proofs.RecordLaws.{take_same}
 use Rattle.bar_box.proofs.SheetLaws.{newest-append}
 use Rattle.bar_box.proofs.OrdinalLaws.{map-newest, length-numbered, bars-numbered, numbered-append}
 
@@ -47,6 +42,11 @@ module _ {A : Type 0} where
   unfolding newest
   length-newest n bars = rw length-drop (omega arith)
 
+  -- if there are no more than n, the newest n are all
+  pub newest-few : (n : ℕ) (bars : List A) → length bars ≤ n → newest n bars ≡ bars
+  unfolding newest
+  newest-few n bars few = let none : length bars - n ≡ 0 = omega arith in rw none
+
 -- ---- the places
 
 -- there are as many places as before
@@ -63,32 +63,6 @@ laid-append old h bars =
       drop-drop (length bars) (length h) old,
       length-append h bars,
     )
-
--- ---- what is held of the newest 20 bars
-
--- where bars came
-pub held-some : (was : HeldExtremes) (n : ℕ) (old bars : List Bar) → 0 < length bars → held_after was n old bars ≡ held_of (n + length bars) (old ++ bars)
-held-some was n old [] some = absurd (let z : ⊥ = omega arith in z)
-held-some was n old (x ∷ bars) some = refl
-
--- 20 of the older bars are enough
-held-append : (m n : ℕ) (old bars : List Bar) → quarter_bars ≤ m → held_of n (newest m old ++ bars) ≡ held_of n (old ++ bars)
-unfolding held_of
-held-append m n old bars enough = ap (held_by n) (newest-append m quarter_bars old bars (omega arith))
-
-pub held-after-near : (was : HeldExtremes) (m n : ℕ) (old bars : List Bar) → quarter_bars ≤ m → held_after was n (newest m old) bars ≡ held_after was n old bars
-held-after-near was m n old [] enough = refl
-held-after-near was m n old (x ∷ bars) enough = held-append m (n + length (x ∷ bars)) old (x ∷ bars) enough
-
--- one run after the other
-held_more : (was : HeldExtremes) (n : ℕ) (old xs ys : List Bar)
-    → held_after (held_after was n old xs) (n + length xs) (newest places (old ++ xs)) ys ≡ held_after was n old (xs ++ ys)
-held_more was n old xs [] = rw (append-nil xs)
-held_more was n old xs (y ∷ ys) =
-    let all = xs ++ (y ∷ ys) in
-    let some : 0 < length all = rw length-append (omega arith) in
-    let sum : n + length xs + suc (length ys) ≡ n + length all = rw length-append (omega arith) in
-    rw (held-some was n old all some, ← append_assoc old xs (y ∷ ys), sum) (held-append places (n + length all) (old ++ xs) (y ∷ ys) (omega arith))
 
 -- ---- bars that the box keeps and takes in
 
@@ -114,16 +88,13 @@ module _ (b : BarBox) (all : length b.bars ≡ places) where
       let f : KeptBar → Bar = λ r. r.bar in
       rw (held-taken bars, map-newest f places (held b ++ numbered b.count bars), map-append f (held b) (numbered b.count bars), bars-numbered b.count bars)
 
-  extremes-append : (xs ys : List Bar) → (taken_in (taken_in b xs) ys).extremes ≡ (taken_in b (xs ++ ys)).extremes
-  extremes-append xs ys = rw (kept-taken xs) (held_more b.extremes b.count (kept b) xs ys)
-
   -- two runs taken in, one after the other, are taken in as one
   pub taken-append : (xs ys : List Bar) → taken_in (taken_in b xs) ys ≡ taken_in b (xs ++ ys)
   taken-append xs ys =
       let n = b.count in
       let first = numbered n xs in
       let second = numbered (n + length xs) ys in
-      rw (extremes-append xs ys, held-taken xs, laid-append b.bars (held b ++ first) second, append_assoc (held b) first second, ← numbered-append n xs ys, length-append xs ys) (rw (add_assoc n))
+      rw (held-taken xs, laid-append b.bars (held b ++ first) second, append_assoc (held b) first second, ← numbered-append n xs ys, length-append xs ys) (rw (add_assoc n))
 
   -- taking no bar in leaves the box
   pub taken_none : taken_in b [] ≡ b
@@ -131,16 +102,3 @@ module _ (b : BarBox) (all : length b.bars ≡ places) where
   taken_none =
       let had = length-held in
       rw (add-zero, append-nil (held b), newest-few places (held b) (omega arith), drop-same b.bars (length (held b)) b.count (omega arith), take-append-drop b.count b.bars)
-
-  -- what a box holds after bars came is right, whatever it held before
-  right-some : (bars : List Bar) → 0 < length bars → is_right (taken_in b bars) ≡ true
-  unfolding is_right
-  right-some bars some =
-      let n = b.count + length bars in
-      let h = kept b ++ bars in
-      rw (held-some b.extremes b.count (kept b) bars some, kept-taken bars, held-near n places h (omega arith)) (held-passes n h)
-
-  -- so that what was right stays so
-  pub right-taken : is_right b ≡ true → (bars : List Bar) → is_right (taken_in b bars) ≡ true
-  right-taken right [] = subst (λ (x : BarBox). is_right x ≡ true) (sym taken_none) right
-  right-taken right (x ∷ bars) = right-some (x ∷ bars) (omega arith)

@@ -11,8 +11,6 @@ use lib.Ieee.{le, of_bits}
 use Rattle.measures.specs.Bar.{Bar}
 use Rattle.measures.specs.Window.{newest, back_of}
 use Rattle.measures.proofs.WindowLaws.{up_to-in, up_to-out}
-use Rattle.held_extremes.specs.Candidate.{held_of}
-use Rattle.held_extremes.proofs.HeldLaws.{held-extremes}
 use Rattle.recognisers.specs.Threshold.{Thresholds, standard_set, valid_of}
 use Rattle.answers.specs.declared.refusals.Refusal.TheVariants.{BadThreshold}
 use Rattle.answers.specs.declared.refusals.Verdict.TheVariants.{Accepted, Denied}
@@ -28,7 +26,6 @@ use Rattle.bar_box.specs.History.{Feed, history_after, box_after, joined_rows, p
 use Rattle.bar_box.proofs.SheetLaws.{length-rows}
 use Rattle.bar_box.proofs.OrdinalLaws.{length-numbered, place_at}
 use Rattle.bar_box.proofs.BoxLaws.{drop-replicate}
-use Rattle.bar_box.proofs.FeedSteps.{extremes-after}
 use Rattle.bar_box.proofs.RowPairs.{pair-in}
 use Rattle.bar_box.proofs.FeedLists.{Sound, sound_empty, sound-after, verdicts-after, box-after, rows-after, one-accepted, one-box, one-rows}
 use Rattle.bar_box.proofs.LookBack.{look-ordinal, pair-up-to}
@@ -57,14 +54,8 @@ module _ (b : BarBox) (start : NoBars b) (fs : List Feed) where
   joined-rows = rows-after b start fs
 
   -- the box, place for place
-  whole-box : box_after b fs
-      ≡ record {
-        thresholds = b.thresholds;
-        count = length joined;
-        extremes = held_of (length joined) joined;
-        bars = newest places (numbered 0 joined) ++ drop (length joined) b.bars;
-      }
-  whole-box = joined-box ∙ rw (extremes-after b start joined, start.none, zero-add, length-numbered 0 joined)
+  whole-box : box_after b fs ≡ record { thresholds = b.thresholds; count = length joined; bars = newest places (numbered 0 joined) ++ drop (length joined) b.bars }
+  whole-box = joined-box ∙ rw (start.none, zero-add, length-numbered 0 joined)
 
   -- the i-th kept place
   kept-place : (i : ℕ) → 1 ≤ i → i ≤ min (length joined) places
@@ -128,8 +119,6 @@ module _ (b : BarBox) (start : NoBars b) (fs : List Feed) where
         -- "The final box has the fresh box's thresholds; its N is the history's count; its places hold the history's newest 64 bars as a feed
         -- lays them."
         final-box = whole-box;
-        -- 02: "After every list of feeds they equal 01's fold over those bars, signs of zero too"
-        held-values = rw whole-box (held-extremes (length h) h);
         -- 02: "Each bar's ordinal is written in the record that the box keeps."
         ordinals = kept-place;
         -- "In a look, 12's pair over the whole history takes the history's count for len." 02: "A look also hands back the judged bar's ordinal,
@@ -160,7 +149,7 @@ standard-valid = refl
 -- "A fresh box has no bars and its thresholds"
 pub fresh-none : (t : Thresholds) → NoBars (fresh_box t)
 unfolding empty_places
-fresh-none t = record { none = refl; right = refl; all-places = refl }
+fresh-none t = record { none = refl; all-places = refl }
 
 -- by whether the thresholds are inside their limits: "a refused box-making returns a fresh box with the standard set"
 made_by : (t : Thresholds) (v : Bool) → valid_of t ≡ v → Fresh t (made_by (cond (not v) (Denied BadThreshold) Accepted) t)

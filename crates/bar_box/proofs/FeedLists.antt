@@ -38,7 +38,7 @@ sound_empty t = record { few = omega arith; valid = λ some. absurd (let z : ⊥
 -- after one feed, by its verdict
 sound-by : (t : Thresholds) (h : List Bar) (f : Feed) (v : Verdict) → verdict_on t h f ≡ v → Sound t h → Sound t (leaves v h (h ++ bars_of f.prices))
 sound-by t h f Accepted e s =
-    let met = fits t (length h) true (length f.prices) (length f.sheet) e in
+    let met = fits t (length h) (length f.prices) (length f.sheet) e in
     record { few = rw (length-append, length-bars) met.few; valid = λ some. met.valid }
 sound-by t h f (Denied r) e s = s
 
@@ -111,7 +111,7 @@ module _ (b : BarBox) (start : NoBars b) (h : List Bar) (sheet : List ℕ) (s : 
   one-verdict valid =
       let four = length-prices h in
       let few = s.few in
-      accepts b.thresholds 0 true (length (prices_of h)) (length sheet) (record { valid = valid; whole = omega arith; few = omega arith; right-box = refl; room = omega arith })
+      accepts b.thresholds 0 (length (prices_of h)) (length sheet) (record { valid = valid; whole = omega arith; few = omega arith; room = omega arith })
 
   pub one-accepted : valid_of b.thresholds ≡ true → (fed b one).verdict ≡ Accepted
   one-accepted valid = ap (λ x. (fed x one).verdict) (at-start b start) ∙ verdict-step b start [] one ∙ one-verdict valid

@@ -1,9 +1,8 @@
 -- One feed to the box that a history left, against the same feed to the plain history: its verdict, the box after it and the rows that it
 -- gives. Assumes nothing.
-use Prim.Native.Nat.{ℕ, ◌+◌, ◌*◌, ◌≤◌, ◌<◌}
+use Prim.Native.Nat.{ℕ, ◌+◌, ◌*◌, ◌≤◌}
 use mathlib.Core.Path.{◌≡◌, refl, ◌∙◌}
-use mathlib.Core.Bool.{Bool, true}
-use mathlib.Core.List.{List, [], ◌∷◌, ◌++◌}
+use mathlib.Core.List.{List, [], ◌++◌}
 use native.Mathlib.Omega.{arith}
 use native.Mathlib.Nat.{zero-add}
 use lib.ListN.{length, take, drop}
@@ -12,9 +11,6 @@ use lib.Ieee.{Float}
 use Rattle.measures.specs.Bar.{Bar, bars_of, overlay}
 use Rattle.measures.specs.Window.{newest}
 use Rattle.measures.proofs.RunLaws.{length-bars}
-use Rattle.held_extremes.specs.Candidate.{held_of}
-use Rattle.held_extremes.proofs.HeldLaws.{held-near}
-use Rattle.held_extremes.proofs.SameLaws.{held-passes}
 use Rattle.recognisers.specs.Threshold.{Thresholds}
 use Rattle.answers.specs.declared.refusals.Verdict.{Verdict, TheVariants.Accepted, TheVariants.Denied}
 use Rattle.recognisers.specs.Number.{row_bytes, places}
@@ -22,7 +18,7 @@ use Rattle.recognisers.specs.Refusal.{leaves, feed_verdict}
 pub use Rattle.answers.proofs.VerdictLaws.{Fits, none_true, fits, accepts}
 use Rattle.box_record.specs.declared.boxes.BarBox.{BarBox}
 use Rattle.bar_box.specs.Sheet.{rows_of}
-use Rattle.bar_box.specs.Box.{kept, is_right, taken_in, fed_of, sheet_of}
+use Rattle.bar_box.specs.Box.{kept, taken_in, fed_of, sheet_of}
 use Rattle.bar_box.specs.History.{Feed, verdict_on, appended, fed, rows_in, NoBars}
 use Rattle.measures.proofs.Overlay.{overlay-none}
 use Rattle.bar_box.proofs.SheetLaws.{length-rows, rows-newest}
@@ -39,19 +35,13 @@ lent-few Accepted n = omega arith
 lent-few (Denied r) n = omega arith
 
 -- 32 bits hold N and their bars, and the sheet has room for their rows
-pub lent_fits : (t : Thresholds) (n : ℕ) (right : Bool) (ps : List Float) (sheet : ℕ) (v : Verdict) → feed_verdict t n right (length ps) sheet ≡ v → n ≤ 4294967295
+pub lent_fits : (t : Thresholds) (n : ℕ) (ps : List Float) (sheet : ℕ) (v : Verdict) → feed_verdict t n (length ps) sheet ≡ v → n ≤ 4294967295
     → (n + length (bars_of (lent v ps)) ≤ 4294967295) × (row_bytes * length (bars_of (lent v ps)) ≤ sheet)
 unfolding bars_of
-lent_fits t n right ps sheet Accepted e bound =
-    let f = fits t n right (length ps) sheet e in
+lent_fits t n ps sheet Accepted e bound =
+    let f = fits t n (length ps) sheet e in
     rw (take-length ps, length-bars ps) (omega (arith, f.few), f.room)
-lent_fits t n right ps sheet (Denied r) e bound = (omega arith, omega arith)
-
--- where there is one, the box that it comes to is right
-pub lent-right : (t : Thresholds) (n : ℕ) (right : Bool) (ps : List Float) (sheet : ℕ) (v : Verdict) → feed_verdict t n right (length ps) sheet ≡ v → 0 < length (bars_of (lent v ps)) → right ≡ true
-unfolding bars_of
-lent-right t n right ps sheet Accepted e some = (fits t n right (length ps) sheet e).right-box
-lent-right t n right ps sheet (Denied r) e some = absurd (let z : ⊥ = omega arith in z)
+lent_fits t n ps sheet (Denied r) e bound = (omega arith, omega arith)
 
 -- they leave the box that the verdict says
 pub lent-box : (v : Verdict) (b : BarBox) → length b.bars ≡ places → (ps : List Float) → taken_in b (bars_of (lent v ps)) ≡ leaves v b (taken_in b (bars_of ps))
@@ -82,19 +72,10 @@ module _ (b : BarBox) (start : NoBars b) where
   pub kept-after : (h : List Bar) → kept (taken_in b h) ≡ newest places h
   kept-after h = kept-taken b start.all-places h ∙ rw start.none
 
-  -- it holds the extremes and candidates of the history's newest 20 bars, so that what it holds is right
-  pub extremes-after : (h : List Bar) → (taken_in b h).extremes ≡ held_of (length h) h
-  extremes-after [] = start.right
-  extremes-after (x ∷ h) = rw (start.none, zero-add)
-
-  pub right-after : (h : List Bar) → is_right (taken_in b h) ≡ true
-  unfolding is_right
-  right-after h = rw (extremes-after h, kept-after h, count-after h, held-near (length h) places h (omega arith)) (held-passes (length h) h)
-
   -- the feed is refused as the history says
   pub verdict-step : (h : List Bar) (f : Feed) → (fed (taken_in b h) f).verdict ≡ verdict_on b.thresholds h f
   unfolding fed_of
-  verdict-step h f = rw (right-after h, count-after h)
+  verdict-step h f = rw (count-after h)
 
   -- by its verdict, it leaves the box that the history after it leaves
   box-by : (v : Verdict) (h bars : List Bar) → leaves v (taken_in b h) (taken_in (taken_in b h) bars) ≡ taken_in b (leaves v h (h ++ bars))
@@ -104,7 +85,7 @@ module _ (b : BarBox) (start : NoBars b) where
   -- the box after the feed is the one that the history after the feed leaves
   pub box-step : (h : List Bar) (f : Feed) → (fed (taken_in b h) f).after ≡ taken_in b (appended b.thresholds h f)
   unfolding fed_of
-  box-step h f = box-by (fed (taken_in b h) f).verdict h (bars_of f.prices) ∙ rw (right-after h, count-after h)
+  box-step h f = box-by (fed (taken_in b h) f).verdict h (bars_of f.prices) ∙ rw (count-after h)
 
   -- the feed gives the rows of its bars over the whole history, though the box keeps 64 bars of it
   pub rows_step : (h : List Bar) (f : Feed)
@@ -113,5 +94,5 @@ module _ (b : BarBox) (start : NoBars b) where
   rows_step h f =
       let bars = bars_of f.prices in
       let t = b.thresholds in
-      rw (right-after h, kept-after h, count-after h, rows-newest places (omega arith) t (length h) h bars)
+      rw (kept-after h, count-after h, rows-newest places (omega arith) t (length h) h bars)
       (written (verdict_on t h f) f.sheet (rows_of t (length h) h bars) (row_bytes * length bars) (length-rows t (length h) h bars))

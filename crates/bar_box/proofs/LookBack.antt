@@ -22,10 +22,10 @@ use Rattle.recognisers.proofs.TableLaws.{judge-gateless}
 use Rattle.box_record.specs.declared.boxes.BarBox.{BarBox}
 use Rattle.bar_box.specs.Box.{taken_in, look_of, look_answer_of}
 use Rattle.bar_box.specs.History.{InLimits, NoBars}
-use Rattle.bar_box.proofs.FeedSteps.{count-after, kept-after, right-after}
+use Rattle.bar_box.proofs.FeedSteps.{count-after, kept-after}
 
 -- a look of which none of refusals 1, 2, 3, 5 and 7 is true
-look-accepted : (k di : ℕ) (t : Thresholds) (n : ℕ) → valid_of t ≡ true → n ≤ most_bars → InLimits di k → look_verdict k di t n true ≡ Accepted
+look-accepted : (k di : ℕ) (t : Thresholds) (n : ℕ) → valid_of t ≡ true → n ≤ most_bars → InLimits di k → look_verdict k di t n ≡ Accepted
 unfolding look_verdict first_true
 look-accepted k di t n valid few (one, near, known) =
     simp (lt-leb recognisers k known, ne_eqb di 0 (λ e. omega arith), valid, le-ltb most_bars n few, le-ltb farthest_look di near)
@@ -36,7 +36,7 @@ pub look-ordinal : (b : BarBox) → NoBars b → (h : List Bar) (k di : ℕ) →
 unfolding look_answer_of look_of
 look-ordinal b start h k di valid few limits =
     let t = b.thresholds in
-    rw (right-after b start h, kept-after b start h, count-after b start h, look-accepted k di t (length h) valid few limits, reach.kept k t (length h) h di limits.1)
+    rw (kept-after b start h, count-after b start h, look-accepted k di t (length h) valid few limits, reach.kept k t (length h) h di limits.1)
 
 -- the p bars up to the judged one are a history in which it is the newest
 module _ (h : List Bar) (di p : ℕ) (here : up_to (length h) di ≡ p) where

@@ -13,10 +13,10 @@ use Rattle.measures.specs.Bar.{Bar, bars_of, overlay}
 use Rattle.recognisers.specs.Threshold.{Thresholds, valid_of}
 use Rattle.answers.specs.declared.refusals.Verdict.TheVariants.{Accepted}
 use Rattle.recognisers.specs.Number.{places, row_bytes}
-use Rattle.recognisers.specs.Refusal.{first_true}
+use Rattle.recognisers.specs.Refusal.{first_true, feed_verdict}
 use Rattle.box_record.specs.declared.boxes.BarBox.{BarBox}
 use Rattle.bar_box.specs.Sheet.{rows_of}
-use Rattle.bar_box.specs.Box.{fresh_box, made_of, kept, taken_in, verdict_of, fed_of, sheet_of}
+use Rattle.bar_box.specs.Box.{fresh_box, made_of, kept, taken_in, fed_of, sheet_of}
 use Rattle.measures.proofs.Overlay.{overlay-more}
 use Rattle.bar_box.proofs.SheetLaws.{length-rows, rows_append, rows-newest}
 use Rattle.bar_box.proofs.BoxLaws.{kept-taken}
@@ -50,7 +50,7 @@ overlay-rest s at xs =
 abbrev pub rows_from : BarBox → List Bar → List ℕ
 rows_from b bars = rows_of b.thresholds b.count (kept b) bars
 
-module _ (b : BarBox) (ps : List Float) (sheet : List ℕ) (e : verdict_of b (length ps) (length sheet) ≡ Accepted) where
+module _ (b : BarBox) (ps : List Float) (sheet : List ℕ) (e : feed_verdict b.thresholds b.count (length ps) (length sheet) ≡ Accepted) where
   -- the box with the bars taken in
   pub fed-box : (fed_of b ps (length sheet)).after ≡ taken_in b (bars_of ps)
   unfolding fed_of

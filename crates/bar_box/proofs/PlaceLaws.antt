@@ -10,7 +10,6 @@ use lib.Dec.{eqb}
 use lib.ListN.{length, get_or, take, drop, set, length-append, length-drop}
 use lib.Seq.{length-take-le, get_or-append-add, get_or-drop, take-add, drop-drop, drop-append-add}
 use Rattle.measures.specs.Bar.{Bar, overlay}
-use Rattle.held_extremes.specs.declared.HeldExtremes.{HeldExtremes}
 use Rattle.recognisers.specs.Number.{places}
 use Rattle.box_record.specs.declared.boxes.KeptBar.{KeptBar}
 use Rattle.box_record.specs.declared.boxes.BarBox.{BarBox}
@@ -21,15 +20,11 @@ use Rattle.bar_box.proofs.SeamLaws.{laid-places}
 
 -- a box with another count
 abbrev pub with_count : BarBox → ℕ → BarBox
-with_count b n = record { thresholds = b.thresholds; count = n; extremes = b.extremes; bars = b.bars }
+with_count b n = record { thresholds = b.thresholds; count = n; bars = b.bars }
 
 -- a box with other places
 abbrev pub with_bars : BarBox → List KeptBar → BarBox
-with_bars b bars = record { thresholds = b.thresholds; count = b.count; extremes = b.extremes; bars = bars }
-
--- a box that holds other extremes
-abbrev pub with_extremes : BarBox → HeldExtremes → BarBox
-with_extremes b h = record { thresholds = b.thresholds; count = b.count; extremes = h; bars = b.bars }
+with_bars b bars = record { thresholds = b.thresholds; count = b.count; bars = bars }
 
 -- the first loop moves no others than the bars that stay, leaves a place ahead of them, and moves some only if they move by one place
 pub by_one : (gone stay near : ℕ) → near ≡ cond (eqb gone 1) stay 0 → (near ≤ stay) × (near ≤ stay + gone - 1) × ((j : ℕ) → j < near → gone ≡ 1)
@@ -89,20 +84,18 @@ module _ {A : Type 0} where
       rw (zero, none, start, ahead) (step ∙ ap (overlay s 0) both)
 
 -- the places after the loops of a feed: the bars that stay moved to the front, j of them and then the others, and the newest lent bars behind
-pub places-taken : (b : BarBox) → length b.bars ≡ places → (bars : List Bar) (kept n some stay j : ℕ) (holds : HeldExtremes) (second third fourth : BarBox)
-    → holds ≡ (taken_in b bars).extremes
+pub places-taken : (b : BarBox) → length b.bars ≡ places → (bars : List Bar) (kept n some stay j : ℕ) (second third fourth : BarBox)
     → kept ≡ min b.count places → n ≡ length bars → some ≡ min n places → stay ≡ min kept (places - some) → j ≤ stay
-    → second ≡ with_bars (with_extremes b holds) (shifted b.bars 0 (kept - stay) j)
+    → second ≡ with_bars b (shifted b.bars 0 (kept - stay) j)
     → third ≡ with_bars second (shifted second.bars j (kept - stay) stay)
     → fourth ≡ with_bars third (overlay third.bars stay (take some (drop (n - some) (numbered b.count bars))))
     → with_count fourth (b.count + n) ≡ taken_in b bars
-places-taken b all bars kept n some stay j holds second third fourth holds-is kept-is n-is some_is stay-is le two three four =
+places-taken b all bars kept n some stay j second third fourth kept-is n-is some_is stay-is le two three four =
     let rs = numbered b.count bars in
     let size : length rs ≡ n = length-numbered b.count bars ∙ sym n-is in
     let moved = shifted-more b.bars (kept - stay) j stay le (omega arith) in
     let new = take some (drop (n - some) rs) in
     let laid_so : overlay (overlay b.bars 0 (take stay (drop (kept - stay) b.bars))) stay new ≡ laid b.bars (held b ++ rs) =
     rw size at (laid-places b.bars rs b.count kept some stay all kept-is (some_is ∙ rw size) stay-is) in
-    let other = with_extremes b holds in
-    let last : fourth ≡ with_bars other (laid b.bars (held b ++ rs)) = four ∙ rw (three, two, moved) (ap (with_bars other) laid_so) in
-    rw (last, n-is, holds-is)
+    let last : fourth ≡ with_bars b (laid b.bars (held b ++ rs)) = four ∙ rw (three, two, moved) (ap (with_bars b) laid_so) in
+    rw (last, n-is)

@@ -5,7 +5,7 @@ use mathlib.Core.List.{List, [], ◌∷◌, ◌++◌, append_assoc}
 use native.Mathlib.Omega.{arith}
 use native.Mathlib.Numerals.{add-one}
 use lib.ListN.{length, get_or, take, drop, set, length-append, length-drop}
-use lib.Seq.{take-suc, take-add, length-take-le, drop-drop}
+use lib.Seq.{take-suc, take-add, length-take-le}
 use Rattle.measures.specs.Bar.{Bar, no_bar, overlay}
 use Rattle.recognisers.specs.Threshold.{Thresholds}
 use Rattle.recognisers.specs.Number.{row_bytes}
@@ -54,18 +54,3 @@ overlay-row t len bars first j s at within room =
     let row-size = length-row t (len + j + 1) (old ++ take j new ++ (b ∷ [])) in
     rw (history, one_more, rows_append t len old (take j new) (b ∷ []), j-bars, rows-one t (len + j) (old ++ take j new) b)
     (overlay-more s at (rows_of t len old (take j new)) (row_of t (len + j + 1) (old ++ take j new ++ (b ∷ []))) (at + row_bytes * j) (omega arith) (omega arith))
-
--- the rows of k bars more
-pub rows-meet : (t : Thresholds) (len : ℕ) (bars : List Bar) (first j k : ℕ) (s : List ℕ) (at : ℕ) → first + j + k ≤ length bars → at + row_bytes * (j + k) ≤ length s
-    → overlay (overlay s at (rows_of t len (take first bars) (take j (drop first bars)))) (at + row_bytes * j) (rows_of t (len + j) (take (first + j) bars) (take k (drop (first + j) bars)))
-    ≡ overlay s at (rows_of t len (take first bars) (take (j + k) (drop first bars)))
-rows-meet t len bars first j k s at within room =
-    let old = take first bars in
-    let new = drop first bars in
-    let m : length new ≡ length bars - first = length-drop first bars in
-    let j-bars : length (take j new) ≡ j = length-take-le j new (omega arith) in
-    let k-bars : length (take k (drop (first + j) bars)) ≡ k = length-take-le k (drop (first + j) bars) (rw length-drop (omega arith)) in
-    let size = length-rows t len old (take j new) in
-    let row-size = length-rows t (len + j) (take (first + j) bars) (take k (drop (first + j) bars)) in
-    rw (take-add j k new, drop-drop j first bars, rows_append t len old (take j new) (take k (drop (first + j) bars)), j-bars, ← take-add first j bars)
-    (overlay-more s at (rows_of t len old (take j new)) (rows_of t (len + j) (take (first + j) bars) (take k (drop (first + j) bars))) (at + row_bytes * j) (omega arith) (omega arith))

@@ -3,14 +3,11 @@
 use Rattle.std.specs.Prelude.{ℕ, ◌+◌, List, [], ◌∷◌, ◌++◌, length, drop, Float}
 use Rattle.measures.specs.Bar.{Bar, bars_of, overlay}
 use Rattle.measures.specs.Window.{newest}
-use Rattle.held_extremes.specs.declared.HeldExtremes.{HeldExtremes}
-use Rattle.held_extremes.specs.Candidate.{held_of}
-use Rattle.answers.specs.declared.refusals.Verdict.{Verdict}
 use Rattle.recognisers.specs.Number.{places}
 use Rattle.recognisers.specs.Refusal.{feed_verdict, leaves}
 use Rattle.box_record.specs.declared.boxes.{KeptBar.KeptBar, BarBox.BarBox, Outcome.Outcome}
 pub use Rattle.box_record.specs.Box.{kept_bar, bars_in, held, kept, empty_place, fresh_box, outcome, made_by}
-unfoldable pub use Rattle.box_record.specs.Box.{empty_places, is_right, made_of, look_of, look_answer_of}
+unfoldable pub use Rattle.box_record.specs.Box.{empty_places, made_of, look_of, look_answer_of}
 use Rattle.bar_box.specs.Sheet.{rows_of}
 
 -- the records of bars that follow n others: ordinals count from 1, in the order of the history
@@ -22,30 +19,15 @@ numbered n (b ∷ bars) = kept_bar b (n + 1) ∷ numbered (n + 1) bars
 abbrev pub laid : List KeptBar → List KeptBar → List KeptBar
 laid old history = newest places history ++ drop (length history) old
 
--- what is held of the newest 20 bars after bars came to n others, of which at least the newest are given; if none came, what was held
-abbrev pub held_after : HeldExtremes → ℕ → List Bar → List Bar → HeldExtremes
-held_after was n old [] = was
-held_after was n old (x ∷ bars) = held_of (n + length (x ∷ bars)) (old ++ (x ∷ bars))
-
 -- the box after it took bars in
 abbrev pub taken_in : BarBox → List Bar → BarBox
-taken_in b bars =
-    record {
-      thresholds = b.thresholds;
-      count = b.count + length bars;
-      extremes = held_after b.extremes b.count (kept b) bars;
-      bars = laid b.bars (held b ++ numbered b.count bars);
-    }
-
--- a feed's verdict on a box
-abbrev pub verdict_of : BarBox → ℕ → ℕ → Verdict
-verdict_of b prices sheet = feed_verdict b.thresholds b.count (is_right b) prices sheet
+taken_in b bars = record { thresholds = b.thresholds; count = b.count + length bars; bars = laid b.bars (held b ++ numbered b.count bars) }
 
 -- the box takes the bars in; a refusal leaves it as it was
 unfoldable pub fed_of : BarBox → List Float → ℕ → Outcome
-fed_of b prices sheet = let v = verdict_of b (length prices) sheet in outcome v (leaves v b (taken_in b (bars_of prices)))
+fed_of b prices sheet = let v = feed_verdict b.thresholds b.count (length prices) sheet in outcome v (leaves v b (taken_in b (bars_of prices)))
 
 -- the sheet has a row for each bar, from its first byte on; bytes past these stay, and a refusal leaves all
 unfoldable pub sheet_of : BarBox → List Float → List ℕ → List ℕ
 sheet_of b prices sheet =
-    leaves (verdict_of b (length prices) (length sheet)) sheet (overlay sheet 0 (rows_of b.thresholds b.count (kept b) (bars_of prices)))
+    leaves (feed_verdict b.thresholds b.count (length prices) (length sheet)) sheet (overlay sheet 0 (rows_of b.thresholds b.count (kept b) (bars_of prices)))

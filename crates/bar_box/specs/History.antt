@@ -2,13 +2,11 @@
 -- calls; the third says how the two agree.
 use Rattle.std.specs.Prelude.{ℕ, ◌+◌, ◌-◌, ◌*◌, ◌≤◌, ◌<◌, min, ◌≡◌, true, cond, List, [], ◌∷◌, ◌++◌, length, get_or, take, drop, replicate, Float}
 use Rattle.measures.specs.Bar.{Bar, no_bar, bars_of, prices_of}
-use Rattle.measures.specs.Fold.{extremes_of}
 use Rattle.measures.specs.Window.{newest, back_of}
-use Rattle.held_extremes.specs.Candidate.{held_of, extremes_in}
 use Rattle.recognisers.specs.Threshold.{Thresholds, standard_set, valid_of}
 use Rattle.answers.specs.declared.refusals.Verdict.{Verdict, TheVariants.Accepted}
 use Rattle.answers.specs.declared.LookAnswer.TheVariants.{Judged}
-use Rattle.recognisers.specs.Number.{recognisers, row_bytes, gated, quarter_bars, places, farthest_look}
+use Rattle.recognisers.specs.Number.{recognisers, row_bytes, gated, places, farthest_look}
 use Rattle.recognisers.specs.Table.{table_row, pair_at, codes_of}
 use Rattle.recognisers.specs.Refusal.{codes_in, answer_in, ordinal_in, leaves, feed_verdict}
 use Rattle.box_record.specs.declared.boxes.{KeptBar.KeptBar, BarBox.BarBox, Outcome.Outcome}
@@ -22,10 +20,9 @@ pub record Feed : Type 0 where
 
 -- ---- the history, a plain list of bars
 
--- a feed is refused exactly as the list of refusals says, with the history's count for N and the fresh box's thresholds; what the box holds of a
--- history is right
+-- a feed is refused exactly as the list of refusals says, with the history's count for N and the fresh box's thresholds
 abbrev pub verdict_on : Thresholds → List Bar → Feed → Verdict
-verdict_on t history f = feed_verdict t (length history) true (length f.prices) (length f.sheet)
+verdict_on t history f = feed_verdict t (length history) (length f.prices) (length f.sheet)
 
 -- it then leaves the history as it is; any other feed appends its bars in their order
 abbrev pub appended : Thresholds → List Bar → Feed → List Bar
@@ -97,16 +94,8 @@ pub record Holds (b : BarBox) (fs : List Feed) (h : List Bar) (sheet : List ℕ)
   pub row_count : length (joined_rows b fs) ≡ row_bytes * length h
   pub pairs : (i k : ℕ) → i < length h → k < recognisers → printed (joined_rows b fs) i k ≡ codes_of (pair_at k b.thresholds (i + 1) (take (i + 1) h) 1 ∷ [])
   -- (d) the final box has the fresh box's thresholds; its N is the history's count; its places hold the history's newest 64 bars with their
-  -- ordinals, and what they held where there are fewer; it holds the extremes and candidates of the history's newest 20 bars
-  pub final-box : box_after b fs
-      ≡ record {
-        thresholds = b.thresholds;
-        count = length h;
-        extremes = held_of (length h) h;
-        bars = newest places (numbered 0 h) ++ drop (length h) b.bars;
-      }
-  -- the held values are 01's folds over these 20 bars, or all if fewer, signs of zero too
-  pub held-values : extremes_in (box_after b fs).extremes ≡ extremes_of (newest quarter_bars h)
+  -- ordinals, and what they held where there are fewer
+  pub final-box : box_after b fs ≡ record { thresholds = b.thresholds; count = length h; bars = newest places (numbered 0 h) ++ drop (length h) b.bars }
   -- (e) the i-th kept place, from 1, holds the bar with ordinal N − kept + i
   pub ordinals : (i : ℕ) → 1 ≤ i → i ≤ min (length h) places
       → let ordinal = length h - min (length h) places + i in in_place (box_after b fs) i ≡ kept_bar (bar_with h ordinal) ordinal
@@ -124,11 +113,9 @@ pub record Holds (b : BarBox) (fs : List Feed) (h : List Bar) (sheet : List ℕ)
   -- (i) within a look's limits and beyond the history there is no judged bar: the short pair, and the ordinal 0
   pub look_none : valid_of b.thresholds ≡ true → (di k : ℕ) → InLimits di k → length h < di → look_answer_of (box_after b fs) k di ≡ Judged (table_row k).short 0
 
--- a box without bars, as made or as a caller filled it: N is 0, and it holds both infinities and no candidates, whatever its thresholds and its 64
--- places hold. One that holds anything else is refused by 5 (is_right)
+-- a box without bars, as made or as a caller filled it: N is 0, whatever its thresholds and its 64 places hold
 pub record NoBars (b : BarBox) : Type 0 where
   pub none : b.count ≡ 0
-  pub right : b.extremes ≡ held_of 0 []
   pub all-places : length b.bars ≡ places
 
 -- what making gives: a box without bars, with the thresholds asked for or, if these are refused, the standard set, so that they are always

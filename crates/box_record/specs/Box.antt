@@ -1,9 +1,8 @@
 -- "A feed reaches the box", "A look": the box, its making and a look, for every box that a caller can hand in.
-use Rattle.std.specs.Prelude.{ℕ, Bool, List, [], ◌∷◌, map, take, replicate}
+use Rattle.std.specs.Prelude.{ℕ, List, [], ◌∷◌, map, take, replicate}
 use Rattle.measures.specs.Bar.{Bar, bar_of}
 use Rattle.measures.specs.Price.{zero}
 use Rattle.measures.specs.Window.{up_to}
-use Rattle.held_extremes.specs.Candidate.{held_of, same_held}
 use Rattle.recognisers.specs.Threshold.{Thresholds, standard_set}
 use Rattle.answers.specs.declared.refusals.Verdict.{Verdict, TheVariants.Accepted, TheVariants.Denied}
 use Rattle.answers.specs.declared.{Answer.Answer, Answer.TheVariants.Labels, LookAnswer.LookAnswer}
@@ -37,13 +36,9 @@ empty_place = kept_bar (bar_of zero zero zero zero) 0
 unfoldable pub empty_places : List KeptBar
 empty_places = replicate places empty_place
 
--- a fresh box has no bars and its thresholds; without bars it holds both infinities and zeros
+-- a fresh box has no bars and its thresholds
 abbrev pub fresh_box : Thresholds → BarBox
-fresh_box t = record { thresholds = t; count = 0; extremes = held_of 0 []; bars = empty_places }
-
--- whether the extremes and candidates that a box holds are those of its bars (02, P7)
-unfoldable pub is_right : BarBox → Bool
-is_right b = same_held b.extremes (held_of b.count (kept b))
+fresh_box t = record { thresholds = t; count = 0; bars = empty_places }
 
 -- ---- the calls
 
@@ -61,7 +56,7 @@ made_of t = let v = first_true (bad_threshold t ∷ []) in outcome v (made_by v 
 
 -- a look tries 1, 2, 3, 5 and 7 (look_verdict). The pair is that over the kept bars, with N for len, so that p = N − di + 1
 unfoldable pub look_of : BarBox → ℕ → ℕ → Answer
-look_of b k di = answer_to (look_verdict k di b.thresholds b.count (is_right b)) (Labels (pair_at k b.thresholds b.count (kept b) di))
+look_of b k di = answer_to (look_verdict k di b.thresholds b.count) (Labels (pair_at k b.thresholds b.count (kept b) di))
 
 -- the judged bar's ordinal is N − di + 1, or 0 where there is none, as p is; no ordinal of a record is read for it
 unfoldable pub look_answer_of : BarBox → ℕ → ℕ → LookAnswer

@@ -3,7 +3,6 @@ ghost use Rattle.std.specs.Prelude.{◌≡◌, [], ◌∷◌};
 ghost use Rattle.recognisers.specs.Refusal.{bad_threshold, first_true, verdict_number};
 ghost use Rattle.box_record.specs.Box.{fresh_box, made_of};
 
-use held_extremes::{HeldExtremes, held_of};
 use measures::Bar;
 use recognisers::counts::PLACES;
 use recognisers::{Refusal, Thresholds, Verdict};
@@ -15,13 +14,11 @@ pub struct KeptBar {
     pub ordinal: u32,
 }
 
-// The thresholds, the count N of bars fed, the extremes of the newest 20 with their candidates, and the newest 64, oldest first from the first
-// place; empty places hold zeros.
+// The thresholds, the count N of bars fed, and the newest 64 of them, oldest first from the first place; empty places hold zeros.
 #[derive(Drop)]
 pub struct BarBox {
     pub thresholds: Thresholds,
     pub count: u32,
-    pub extremes: HeldExtremes,
     pub bars: [KeptBar; PLACES],
 }
 
@@ -45,11 +42,9 @@ pub fn fresh(thresholds: Thresholds) -> BarBox
         },
         ordinal: 0,
     };
-    let none = [0.0; 0];
     BarBox {
         thresholds,
         count: 0,
-        extremes: held_of(&none, 0),
         bars: [zeros; PLACES],
     }
 }

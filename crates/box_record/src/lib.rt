@@ -4,4 +4,4 @@ pub mod boxes;
 pub mod looks;
 
 pub use boxes::{BarBox, KeptBar, Outcome, fresh, make};
-pub use looks::{is_right, look};
+pub use looks::look;

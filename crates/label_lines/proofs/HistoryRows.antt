@@ -18,7 +18,7 @@ use Rattle.bar_box.specs.Sheet.{row_of}
 use Rattle.bar_box.specs.Box.{fresh_box, taken_in, fed_of, sheet_of}
 use Rattle.bar_box.specs.History.{Feed, verdict_on, NoBars}
 use Rattle.bar_box.proofs.SheetLaws.{length-row, rows-one, rows-newest}
-use Rattle.bar_box.proofs.FeedSteps.{accepts, count-after, kept-after, right-after, verdict-step, box-step}
+use Rattle.bar_box.proofs.FeedSteps.{accepts, count-after, kept-after, verdict-step, box-step}
 use Rattle.bar_box.proofs.FeedLists.{at-start}
 use Rattle.bar_box.proofs.Demand3.{standard-valid, fresh-none}
 use Rattle.text.specs.declared.line_text.Line.{Line, TheVariants.Prices, TheVariants.BadShape, TheVariants.BadPrice}
@@ -56,7 +56,7 @@ module _ (h : List Bar) (bar : Bar) where
   module _ (few : length h + 1 ≤ most_bars) where
     pub accepted : verdict_on standard_set h feed ≡ Accepted
     unfolding prices_of
-    accepted = accepts standard_set (length h) true 4 row_bytes (record { valid = standard-valid; whole = refl; few = few; right-box = refl; room = omega arith })
+    accepted = accepts standard_set (length h) 4 row_bytes (record { valid = standard-valid; whole = refl; few = few; room = omega arith })
 
     fed : (fed_of (box_of h) (prices_of (bar ∷ [])) row_bytes).verdict ≡ Accepted
     fed = verdict-step fresh start h feed ∙ accepted
@@ -70,7 +70,7 @@ module _ (h : List Bar) (bar : Bar) where
     unfolding sheet_of bars_of prices_of
     row =
         let near = rows-newest places (omega arith) standard_set (length h) h (bar ∷ []) in
-        rw (right-after fresh start h, kept-after fresh start h, count-after fresh start h, accepted, near, rows-one standard_set (length h) h bar, length-row standard_set (length h + 1) more)
+        rw (kept-after fresh start h, count-after fresh start h, accepted, near, rows-one standard_set (length h) h bar, length-row standard_set (length h + 1) more)
         (append-nil (row_of standard_set (length h + 1) more))
 
     fed-more : fed_step (box_of h) bar ≡ record { printed = newest_lines more; after = box_of more; stops = false }

@@ -13,10 +13,11 @@ use Rattle.measures.proofs.RunLaws.{length-bars, bars-drop, bars-take}
 use Rattle.recognisers.specs.Number.{places, row_bytes}
 use Rattle.answers.specs.declared.refusals.Verdict.TheVariants.{Accepted}
 use Rattle.box_record.specs.declared.boxes.BarBox.{BarBox}
-use Rattle.bar_box.specs.Box.{kept, taken_in, verdict_of, fed_of, sheet_of}
+use Rattle.recognisers.specs.Refusal.{feed_verdict}
+use Rattle.bar_box.specs.Box.{kept, taken_in, fed_of, sheet_of}
 use Rattle.bar_box.specs.History.{Feed}
 use Rattle.bar_box.proofs.SheetLaws.{length-rows}
-use Rattle.bar_box.proofs.BoxLaws.{taken-append, right-taken}
+use Rattle.bar_box.proofs.BoxLaws.{taken-append}
 use Rattle.bar_box.proofs.FeedSteps.{fits, accepts}
 use Rattle.bar_box.proofs.PartLaws.{rows_from, rest_of, length_rest, overlay-rest, fed-box, fed-sheet, rows_both}
 use Rattle.tallies.specs.declared.table.TallyRow.{TallyRow}
@@ -51,14 +52,14 @@ module _ (b : BarBox) (all : length b.bars ≡ places) (tally : List TallyRow) (
   abbrev later : List Bar
   later = take (passed + n) (bars_of ps)
 
-  accepted : verdict_of (taken_in b before) (length part.prices) (length part.sheet) ≡ Accepted
+  accepted : feed_verdict b.thresholds (taken_in b before).count (length part.prices) (length part.sheet) ≡ Accepted
   accepted =
-      let f = fits _ _ _ _ _ (accepted-plain b tally (lent ps s₀) whole) in
+      let f = fits _ _ _ _ (accepted-plain b tally (lent ps s₀) whole) in
       let total = length-bars ps in
       let are : length before ≡ passed = length-take-le passed (bars_of ps) (omega arith) in
       let prices : length part.prices ≡ 4 * n = rw (length-take, length-drop) (omega arith) in
       let rest = length_rest s (row_bytes * passed) in
-      accepts _ _ _ _ _ (record { valid = f.valid; whole = omega arith; few = omega (arith, f.few); right-box = right-taken b all f.right-box before; room = omega (arith, f.room) })
+      accepts _ _ _ _ (record { valid = f.valid; whole = omega arith; few = omega (arith, f.few); room = omega (arith, f.room) })
 
   -- the box takes them in
   taken_more : taken_in (taken_in b before) (bars_of part.prices) ≡ taken_in b later
@@ -70,7 +71,7 @@ module _ (b : BarBox) (all : length b.bars ≡ places) (tally : List TallyRow) (
   -- their rows stand behind those before
   pub next-sheet : put_mid (row_bytes * passed) (length s - row_bytes * passed) s (sheet_of (taken_in b before) part.prices part.sheet) ≡ overlay s₀ 0 (rows_from b later)
   next-sheet =
-      let room = (fits _ _ _ _ _ (accepted-plain b tally (lent ps s₀) whole)).room in
+      let room = (fits _ _ _ _ (accepted-plain b tally (lent ps s₀) whole)).room in
       let total = length-bars ps in
       let more = take n (drop passed (bars_of ps)) in
       let are : length before ≡ passed = length-take-le passed (bars_of ps) (omega arith) in
@@ -85,7 +86,7 @@ module _ (b : BarBox) (all : length b.bars ≡ places) (tally : List TallyRow) (
 
     accepted-with : verdict_with (taken_in b before) counts part ≡ Accepted
     accepted-with =
-        plain-verdict _ _ _ counts _ _ (parts_add b all tally shaped before (accepted-adds _ _ _ tally _ _ whole)) ∙ accepted
+        plain-verdict _ _ counts _ _ (parts_add b all tally shaped before (accepted-adds _ _ tally _ _ whole)) ∙ accepted
 
     -- and are counted
     pub next-tallied : tallied_of (taken_in b before) counts part ≡ record { verdict = Accepted; after = taken_in b later; tally = counted (rows_from b later) tally }

@@ -87,8 +87,7 @@ pub fn feed_parts(
         (result ≡ record { verdict = one.verdict; after = one.after; tally = cond counts one.tally tally }) × (sheet.new ≡ tallied_sheet b tally f) }
 {
     let t = b.thresholds;
-    let right = bar_box::is_right(b);
-    match tally_verdict(t, b.count, right, tally, prices.len(), sheet.len()) {
+    match tally_verdict(t, b.count, tally, prices.len(), sheet.len()) {
         Verdict::Denied(why) => Tallied {
             verdict: Verdict::Denied(why),
             after: b,

@@ -5,7 +5,7 @@ use Rattle.std.specs.Float.Ieee.{of_int, to_unsigned, eq, ne, mul, div, sub, lt,
 use Rattle.measures.specs.Bar.{Bar, body_of, upper_of, lower_of}
 use Rattle.measures.specs.declared.folds.Extremes.{Extremes}
 use Rattle.measures.specs.Price.{zero, abs_of}
-use Rattle.measures.specs.Window.{window_of}
+use Rattle.measures.specs.Window.{window_of, back_of}
 use Rattle.measures.specs.Fold.{extremes_of, low_side, high_side}
 use Rattle.rule_types.specs.declared.label.Label.TheVariants.{Other, Any, Met, Hammer, HangingMan, BullishEngulfing, BearishEngulfing, FallingSeparatingLines, RisingSeparatingLines, ArrowOnString, CandleInWind, BullishCounterattack, BearishCounterattack}
 use Rattle.rule_types.specs.declared.label.Pair.{Pair}
@@ -22,6 +22,9 @@ quarter_extremes w = extremes_of (window_of w 1 quarter_bars)
 -- the side that the judged bar reaches into; neither where p is below 22, which is what `deep` says not
 abbrev pub quarter_in : Bool → Extremes → Bar → Quarter
 quarter_in deep e b1 = record { low = deep && low_side e b1; high = deep && high_side e b1 }
+
+unfoldable pub quarter_of : Bool → List Bar → Quarter
+quarter_of deep w = quarter_in deep (quarter_extremes w) (back_of w 1)
 
 -- ---- 0: san_xing_xian
 

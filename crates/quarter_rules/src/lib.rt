@@ -3,7 +3,7 @@
 // for every input.
 ghost use Rattle.std.specs.Prelude.{◌≡◌};
 ghost use Rattle.measures.specs.Bar.{bars_of};
-ghost use Rattle.quarter_rules.specs.QuarterRule.{quarter_in, quarter_extremes, cut_of, umbrella_of, san_xing_xian, engulfs_up, engulfs_down, ten_mo, parts_down, parts_up, fen_shou_xian, candle_of, zhu_huo_xian, counters_of, counters_up, counters_down, fan_ji_xian};
+ghost use Rattle.quarter_rules.specs.QuarterRule.{quarter_in, quarter_of, quarter_extremes, cut_of, umbrella_of, san_xing_xian, engulfs_up, engulfs_down, ten_mo, parts_down, parts_up, fen_shou_xian, candle_of, zhu_huo_xian, counters_of, counters_up, counters_down, fan_ji_xian};
 
 use measures::{Bar, Extremes};
 use rule_types::counts::QUARTER_BARS;
@@ -31,6 +31,12 @@ pub fn quarter_extremes(w: &[f64]) -> Extremes
     ensures { result ≡ quarter_extremes (bars_of w.now) }
 {
     measures::extremes_of(measures::last_bars(w, 1, QUARTER_BARS))
+}
+
+pub fn quarter_of(deep: bool, w: &[f64]) -> Quarter
+    ensures { result ≡ quarter_of deep (bars_of w.now) }
+{
+    quarter_in(deep, quarter_extremes(w), measures::back(w, 1))
 }
 
 // 0: san_xing_xian

@@ -30,9 +30,8 @@ pub record Seen : Type 0 where
   pub ten : List Bar
   pub nine : List Bar
 
--- where Lmax and Lmin are given
-unfoldable pub seen_with : Extremes → List Bar → Seen
-seen_with e w =
+unfoldable pub seen_of : List Bar → Seen
+seen_of w =
     record {
       b1 = back_of w 1;
       b2 = back_of w 2;
@@ -40,14 +39,10 @@ seen_with e w =
       b4 = back_of w 4;
       b5 = back_of w 5;
       b6 = back_of w 6;
-      extremes = e;
+      extremes = quarter_extremes w;
       ten = ten_closes w;
       nine = newest 9 w;
     }
-
--- where they are those of the window itself
-abbrev pub seen_of : List Bar → Seen
-seen_of w = seen_with (quarter_extremes w) w
 
 -- the quarter of the judged bar
 abbrev pub quarter_seen : Bool → Seen → Quarter
@@ -93,21 +88,13 @@ no_row = row 0 pair_a (λ t deep s. pair_a)
 unfoldable pub table_row : ℕ → Row
 table_row k = get_or rows k no_row
 
--- the rule of recogniser k over what it sees; of 12, A where its gate is shut, which reads len and a window of its own
-abbrev pub rule_by : ℕ → Thresholds → ℕ → Bool → Seen → List Bar → Pair
-rule_by k t len deep s gate = cond (eqb k gated && gate_shut len gate s.b3) pair_a ((table_row k).rule t deep s)
-
--- recogniser k over what it sees of a window that ends with the judged bar, of which p bars lie up to it: below the p given, the short
--- pair, else the rule
-unfoldable pub judge_by : ℕ → Thresholds → ℕ → ℕ → Seen → List Bar → Pair
-judge_by k t len p s gate = cond (ltb p (table_row k).from) (table_row k).short (rule_by k t len (leb reach_bars p) s gate)
-
--- over the window w by itself
+-- the rule of recogniser k; of 12, A where its gate is shut, which reads len and a window of its own
 abbrev pub rule_of : ℕ → Thresholds → ℕ → Bool → List Bar → List Bar → Pair
-rule_of k t len deep w gate = rule_by k t len deep (seen_of w) gate
+rule_of k t len deep w gate = cond (eqb k gated && gate_shut len gate (seen_of w).b3) pair_a ((table_row k).rule t deep (seen_of w))
 
+-- recogniser k over the window w that ends with the judged bar, of which p bars lie up to it: below the p given, the short pair, else the rule
 unfoldable pub judge_of : ℕ → Thresholds → ℕ → ℕ → List Bar → List Bar → Pair
-judge_of k t len p w gate = judge_by k t len p (seen_of w) gate
+judge_of k t len p w gate = cond (ltb p (table_row k).from) (table_row k).short (rule_of k t len (leb reach_bars p) w gate)
 
 -- all bars of a history up to the judged one
 abbrev pub all_up_to : List Bar → ℕ → List Bar
@@ -117,11 +104,7 @@ all_up_to history di = take (up_to (length history) di) history
 unfoldable pub pair_at : ℕ → Thresholds → ℕ → List Bar → ℕ → Pair
 pair_at k t len history di = judge_of k t len (up_to len di) (all_up_to history di) (window_of history gate_end quarter_bars)
 
--- the pair at its newest bar, where Lmax and Lmin are given
-unfoldable pub pair_with : Extremes → ℕ → Thresholds → ℕ → List Bar → Pair
-pair_with e k t len history = judge_by k t len (up_to len 1) (seen_with e history) (window_of history gate_end quarter_bars)
-
--- 13 and 14 at an offset as 01 has them, whose th counts units; p and short pair are the table's
+-- 13 and 14 there as 01 has them, whose th counts units; p and short pair are the table's
 abbrev pub szx_in01 : ℕ → ℕ → List Bar → ℕ → Pair
 szx_in01 th len history di =
     let w = all_up_to history di in cond (ltb (up_to len di) (table_row 13).from) (table_row 13).short (szx_by (doji_above (whole_of th)) (back_of w 1) (back_of w 2))
@@ -136,7 +119,3 @@ san_szx_in01 th len history di =
 -- the pairs of the recognisers in the order of their numbers, at an offset of a history
 unfoldable pub pairs_at : Thresholds → ℕ → List Bar → ℕ → List Pair
 pairs_at t len history di = map (λ k. pair_at k t len history di) (numbers recognisers 0)
-
--- at its newest bar, where Lmax and Lmin are given
-unfoldable pub pairs_with : Extremes → Thresholds → ℕ → List Bar → List Pair
-pairs_with e t len history = map (λ k. pair_with e k t len history) (numbers recognisers 0)

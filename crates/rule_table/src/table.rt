@@ -2,11 +2,11 @@
 ghost use Rattle.std.specs.Prelude.{◌≡◌, cond, ltb, leb, ◌<◌};
 ghost use Rattle.measures.specs.Bar.{bars_of};
 ghost use Rattle.rule_types.specs.Number.{recognisers, reach_bars};
-ghost use Rattle.rule_table.specs.Table.{table_row, seen_with, rule_by, judge_by, judge_of, pair_at, pair_with, pairs_with};
-ghost use Rattle.rule_table.specs.TableSteps.{rules_by, pairs_by, extremes_for};
+ghost use Rattle.rule_table.specs.Table.{table_row, rule_of, judge_of, pair_at, pairs_at};
+ghost use Rattle.rule_table.specs.TableSteps.{rules_of, pairs_of};
 
-use measures::{Extremes, back, price};
-use quarter_rules::{quarter_extremes, quarter_in};
+use measures::back;
+use quarter_rules::{quarter_extremes, quarter_in, quarter_of};
 use rule_types::counts::{GATE_END, QUARTER_BARS, REACH_BARS, RECOGNISERS};
 use rule_types::label::{Pair, pair_a, pair_b, pick_pair};
 use thresholds::Thresholds;
@@ -29,69 +29,34 @@ fn row(k: usize, p: usize, full: Pair) -> Pair
     pick_pair(p < FROM[k], short, full)
 }
 
-// The rule of recogniser k over the window w that ends with the judged bar, with the extremes of the quarter; deep: 22 bars or more lie up
-// to it. The gate of 12 reads len and a window of its own. Past the table the pair is A.
-fn rule(k: u32, t: Thresholds, len: usize, deep: bool, e: Extremes, w: &[f64], gate: &[f64]) -> Pair
-    ensures { result ≡ rule_by k t len deep (seen_with e (bars_of w.now)) (bars_of gate.now) }
+// The rule of recogniser k over the window w that ends with the judged bar; deep: 22 bars or more lie up to it. The gate of 12 reads len
+// and a window of its own. Past the table the pair is A.
+fn rule(k: u32, t: Thresholds, len: usize, deep: bool, w: &[f64], gate: &[f64]) -> Pair
+    ensures { result ≡ rule_of k t len deep (bars_of w.now) (bars_of gate.now) }
 {
     let b1 = back(w, 1);
     let b2 = back(w, 2);
     let b3 = back(w, 3);
     match k {
-        0 => quarter_rules::san_xing_xian(t.th0, quarter_in(deep, e, b1), b1),
-        1 => quarter_rules::ten_mo(quarter_in(deep, e, b1), b1, b2),
+        0 => quarter_rules::san_xing_xian(t.th0, quarter_of(deep, w), b1),
+        1 => quarter_rules::ten_mo(quarter_of(deep, w), b1, b2),
         2 => two_bar_rules::wu_yun_gai_ding(t.z2, t.th2, w, b1, b2),
         3 => two_bar_rules::ci_tou(t.z3, t.th3, b1, b2),
         4 => growing_rules::san_fa_v20221118(w),
         5 => { bar_rules::san_fa_v20221115(t.zdf5, b1, b2, b3, back(w, 4), back(w, 5), back(w, 6)) }
         6 => star_rules::xing_xian(t.th6, b1, b2, b3),
-        7 => quarter_rules::fen_shou_xian(t.zdf7, quarter_in(deep, e, b1), b1, b2),
-        8 => quarter_rules::zhu_huo_xian(t.th8, t.zf8, quarter_in(deep, e, b1), b1),
+        7 => quarter_rules::fen_shou_xian(t.zdf7, quarter_of(deep, w), b1, b2),
+        8 => quarter_rules::zhu_huo_xian(t.th8, t.zf8, quarter_of(deep, w), b1),
         9 => two_bar_rules::yun_xian(b1, b2),
         10 => two_bar_rules::ping_tou(t.th10, b1, b2),
         11 => bar_rules::two_crow(b1, b2, b3),
         12 => bar_rules::three_crow(len, gate, b1, b2, b3),
         13 => star_rules::szx(t.th13, b1, b2),
         14 => star_rules::san_szx(t.th14, b1, b2, b3, back(w, 4), back(w, 5)),
-        15 => quarter_rules::fan_ji_xian(e, b3, b2, b1),
+        15 => quarter_rules::fan_ji_xian(quarter_extremes(w), b3, b2, b1),
         16 => bar_rules::gap_yin_yang(b1, b2, b3),
         17 => growing_rules::ta_xing(w),
         _ => pair_a(),
-    }
-}
-
-// The extremes that recogniser k reads: only 0, 1, 7, 8 and 15 read any, and for the others no bar is gone through.
-fn extremes_for(k: u32, w: &[f64]) -> Extremes
-    ensures { result ≡ extremes_for k (bars_of w.now) }
-{
-    if (k == 0) | (k == 1) | (k == 7) | (k == 8) | (k == 15) {
-        quarter_extremes(w)
-    } else {
-        Extremes {
-            highest: price::minus_infinity(),
-            lowest: price::plus_infinity(),
-        }
-    }
-}
-
-// Recogniser k over the window w that ends with the judged bar, of which p bars of the history lie up to it, with the extremes of the quarter.
-fn judge_by(
-    k: u32,
-    t: Thresholds,
-    len: usize,
-    p: usize,
-    e: Extremes,
-    w: &[f64],
-    gate: &[f64],
-) -> Pair
-    ensures { result ≡ judge_by k t len p (seen_with e (bars_of w.now)) (bars_of gate.now) }
-{
-    let full = rule(k, t, len, p >= REACH_BARS, e, w, gate);
-    let i = k as usize;
-    if i < RECOGNISERS {
-        row(i, p, full)
-    } else {
-        full
     }
 }
 
@@ -99,7 +64,13 @@ fn judge_by(
 pub fn judge(k: u32, t: Thresholds, len: usize, p: usize, w: &[f64], gate: &[f64]) -> Pair
     ensures { result ≡ judge_of k t len p (bars_of w.now) (bars_of gate.now) }
 {
-    judge_by(k, t, len, p, extremes_for(k, w), w, gate)
+    let full = rule(k, t, len, p >= REACH_BARS, w, gate);
+    let i = k as usize;
+    if i < RECOGNISERS {
+        row(i, p, full)
+    } else {
+        full
+    }
 }
 
 // The pair of recogniser k at an offset of the lent bars, which are the newest of a history of len bars.
@@ -112,27 +83,10 @@ pub fn pair_at(k: u32, t: Thresholds, len: usize, prices: &[f64], di: usize) -> 
     judge(k, t, len, p, w, gate)
 }
 
-// The pair of recogniser k at the newest of the lent bars, which are the newest of a history of len bars, with the extremes of the quarter.
-pub fn newest_pair(k: u32, t: Thresholds, len: usize, prices: &[f64], e: Extremes) -> Pair
-    ensures { result ≡ pair_with e k t len (bars_of prices.now) }
-{
-    let p = measures::up_to(len, 1);
-    let w = measures::last_bars(prices, 1, REACH_BARS);
-    let gate = measures::last_bars(prices, GATE_END, QUARTER_BARS);
-    judge_by(k, t, len, p, e, w, gate)
-}
-
-// Every rule over the same windows. What several rules need is made once: the newest bars, the side of the quarter, and the search of 4
-// and 17.
-fn rules(
-    t: Thresholds,
-    len: usize,
-    deep: bool,
-    e: Extremes,
-    w: &[f64],
-    gate: &[f64],
-) -> [Pair; RECOGNISERS]
-    ensures { result ≡ rules_by t len deep (seen_with e (bars_of w.now)) (bars_of gate.now) }
+// Every rule over the same windows. What several rules need is made once: the newest bars, the extremes of the quarter, and the search of
+// 4 and 17.
+fn rules(t: Thresholds, len: usize, deep: bool, w: &[f64], gate: &[f64]) -> [Pair; RECOGNISERS]
+    ensures { result ≡ rules_of t len deep (bars_of w.now) (bars_of gate.now) }
 {
     let b1 = back(w, 1);
     let b2 = back(w, 2);
@@ -140,6 +94,7 @@ fn rules(
     let b4 = back(w, 4);
     let b5 = back(w, 5);
     let b6 = back(w, 6);
+    let e = quarter_extremes(w);
     let q = quarter_in(deep, e, b1);
     let g = growing_rules::growing_pairs(w);
     let methods = g.methods;
@@ -174,17 +129,10 @@ fn first_short(p: usize) -> usize
 }
 
 // Every recogniser over the same windows.
-fn pairs(
-    t: Thresholds,
-    len: usize,
-    p: usize,
-    e: Extremes,
-    w: &[f64],
-    gate: &[f64],
-) -> [Pair; RECOGNISERS]
-    ensures { result ≡ pairs_by t len p (seen_with e (bars_of w.now)) (bars_of gate.now) }
+fn pairs(t: Thresholds, len: usize, p: usize, w: &[f64], gate: &[f64]) -> [Pair; RECOGNISERS]
+    ensures { result ≡ pairs_of t len p (bars_of w.now) (bars_of gate.now) }
 {
-    let full = rules(t, len, p >= REACH_BARS, e, w, gate);
+    let full = rules(t, len, p >= REACH_BARS, w, gate);
     let mut pairs = full;
     let mut k = first_short(p);
     while k < RECOGNISERS {
@@ -194,13 +142,12 @@ fn pairs(
     pairs
 }
 
-// The pairs of every recogniser at the newest of the lent bars, which are the newest of a history of len bars, with the extremes of the
-// quarter.
-pub fn newest_pairs(t: Thresholds, len: usize, prices: &[f64], e: Extremes) -> [Pair; RECOGNISERS]
-    ensures { result ≡ pairs_with e t len (bars_of prices.now) }
+// The pairs of every recogniser at the newest of the lent bars, which are the newest of a history of len bars.
+pub fn newest_pairs(t: Thresholds, len: usize, prices: &[f64]) -> [Pair; RECOGNISERS]
+    ensures { result ≡ pairs_at t len (bars_of prices.now) 1 }
 {
     let p = measures::up_to(len, 1);
     let w = measures::last_bars(prices, 1, REACH_BARS);
     let gate = measures::last_bars(prices, GATE_END, QUARTER_BARS);
-    pairs(t, len, p, e, w, gate)
+    pairs(t, len, p, w, gate)
 }

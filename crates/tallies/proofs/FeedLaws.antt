@@ -1,6 +1,6 @@
 -- A feed with a tally beside one without: its verdict, and what an accepted one leaves. Assumes nothing.
 use Prim.Native.Nat.{ℕ, ◌+◌, ◌*◌}
-use mathlib.Core.Bool.{Bool, true}
+use mathlib.Core.Bool.{true}
 use mathlib.Core.List.{List}
 use mathlib.Core.Path.{◌≡◌, sym, ◌∙◌}
 use borrow.Author.Tests.{not-false}
@@ -11,10 +11,10 @@ use Rattle.recognisers.specs.Number.{row_bytes}
 use Rattle.recognisers.specs.Threshold.{Thresholds}
 use Rattle.recognisers.specs.Refusal.{first_true, next_after, feed_tried, feed_verdict}
 use Rattle.answers.specs.declared.refusals.Refusal.{Refusal}
-use Rattle.answers.specs.declared.refusals.Verdict.{Verdict, TheVariants.Accepted, TheVariants.Denied}
+use Rattle.answers.specs.declared.refusals.Verdict.TheVariants.{Accepted, Denied}
 use Rattle.box_record.specs.declared.boxes.BarBox.{BarBox}
 use Rattle.bar_box.specs.Sheet.{rows_of}
-use Rattle.bar_box.specs.Box.{kept, is_right, taken_in, verdict_of, fed_of, sheet_of}
+use Rattle.bar_box.specs.Box.{kept, taken_in, fed_of, sheet_of}
 use Rattle.bar_box.specs.History.{Feed, fed}
 use Rattle.bar_box.proofs.SheetLaws.{length-rows}
 use Rattle.bar_box.proofs.FeedSteps.{none_true}
@@ -24,14 +24,14 @@ use Rattle.tallies.specs.Feed.{tally_verdict, verdict_with, tallied_of}
 
 -- ---- the verdict
 
-module _ (t : Thresholds) (n : ℕ) (right : Bool) (tally : List TallyRow) (prices : ℕ) where
+module _ (t : Thresholds) (n : ℕ) (tally : List TallyRow) (prices : ℕ) where
   -- where the tally adds up, the verdict is that of a feed without one
-  pub plain-verdict : (sheet : ℕ) → adds_up n tally ≡ true → tally_verdict t n right tally prices sheet ≡ feed_verdict t n right prices sheet
+  pub plain-verdict : (sheet : ℕ) → adds_up n tally ≡ true → tally_verdict t n tally prices sheet ≡ feed_verdict t n prices sheet
   unfolding tally_verdict feed_verdict feed_tried next_after first_true
   plain-verdict sheet adds = rw adds
 
   -- where it is accepted, the tally adds up
-  pub accepted-adds : (sheet : ℕ) → tally_verdict t n right tally prices sheet ≡ Accepted → adds_up n tally ≡ true
+  pub accepted-adds : (sheet : ℕ) → tally_verdict t n tally prices sheet ≡ Accepted → adds_up n tally ≡ true
   unfolding tally_verdict feed_tried next_after
   accepted-adds sheet e =
       let three = none_true _ _ e in
@@ -42,18 +42,14 @@ module _ (t : Thresholds) (n : ℕ) (right : Bool) (tally : List TallyRow) (pric
 -- ---- what a feed leaves
 
 module _ (b : BarBox) (tally : List TallyRow) (f : Feed) where
-  -- the verdict, by a test of what the box holds
-  pub with-test : (right : Bool) (v : Verdict) → right ≡ is_right b → v ≡ tally_verdict b.thresholds b.count right tally (length f.prices) (length f.sheet) → v ≡ verdict_with b tally f
-  with-test right v is e = e ∙ rw is
-
   pub tallied-refused : (r : Refusal) → verdict_with b tally f ≡ Denied r → tallied_of b tally f ≡ record { verdict = Denied r; after = b; tally = tally }
   unfolding tallied_of
   tallied-refused r e = rw e
 
   -- the verdict of the same feed without a tally
-  pub accepted-plain : verdict_with b tally f ≡ Accepted → verdict_of b (length f.prices) (length f.sheet) ≡ Accepted
+  pub accepted-plain : verdict_with b tally f ≡ Accepted → feed_verdict b.thresholds b.count (length f.prices) (length f.sheet) ≡ Accepted
   accepted-plain e =
-      sym (plain-verdict b.thresholds b.count (is_right b) tally (length f.prices) (length f.sheet) (accepted-adds b.thresholds b.count (is_right b) tally (length f.prices) (length f.sheet) e)) ∙ e
+      sym (plain-verdict b.thresholds b.count tally (length f.prices) (length f.sheet) (accepted-adds b.thresholds b.count tally (length f.prices) (length f.sheet) e)) ∙ e
 
   module _ (e : verdict_with b tally f ≡ Accepted) where
     abbrev rows : List ℕ

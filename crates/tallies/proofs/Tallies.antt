@@ -16,7 +16,7 @@ use Rattle.recognisers.specs.Threshold.{Thresholds}
 use Rattle.answers.specs.declared.refusals.Verdict.{Verdict, TheVariants.Accepted, TheVariants.Denied}
 use Rattle.box_record.specs.declared.boxes.BarBox.{BarBox}
 use Rattle.bar_box.specs.Sheet.{rows_of}
-use Rattle.bar_box.specs.Box.{is_right, taken_in, fed_of, sheet_of}
+use Rattle.bar_box.specs.Box.{taken_in, fed_of, sheet_of}
 use Rattle.recognisers.specs.Refusal.{leaves}
 use Rattle.bar_box.specs.Calls.{after, each}
 use Rattle.bar_box.specs.History.{Feed, verdict_on, appended, history_after, fed, box_left, rows_in, joined_rows, one_feed, NoBars}
@@ -75,7 +75,7 @@ module _ (b : BarBox) (start : NoBars b) where
   verdict-with : (h : List Bar) (f : Feed) → verdict_with (taken_in b h) (tally h) f ≡ (fed (taken_in b h) f).verdict
   unfolding fed_of
   verdict-with h f =
-      plain-verdict t (taken_in b h).count (is_right (taken_in b h)) (tally h) (length f.prices) (length f.sheet) (rw (count-after b start h) (tally-adds t h))
+      plain-verdict t (taken_in b h).count (tally h) (length f.prices) (length f.sheet) (rw (count-after b start h) (tally-adds t h))
 
   -- a refusal leaves what was there, as the feed without a tally does
   leaves-fed : (v : Verdict) (h : List Bar) (f : Feed) → (fed (taken_in b h) f).verdict ≡ v → leaves v (taken_in b h) (fed (taken_in b h) f).after ≡ (fed (taken_in b h) f).after

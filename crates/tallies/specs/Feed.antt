@@ -1,11 +1,11 @@
 -- A feed with a tally, for every box and tally that a caller can hand in.
-use Rattle.std.specs.Prelude.{ℕ, Bool, not, List, [], ◌∷◌, length, Float}
+use Rattle.std.specs.Prelude.{ℕ, not, List, [], ◌∷◌, length, Float}
 use Rattle.recognisers.specs.Threshold.{Thresholds}
 use Rattle.answers.specs.declared.refusals.Refusal.TheVariants.{TooManyBars}
 use Rattle.answers.specs.declared.refusals.Verdict.{Verdict}
 use Rattle.recognisers.specs.Refusal.{Tried, tried, first_true, next_after, leaves, feed_tried}
 use Rattle.box_record.specs.declared.boxes.BarBox.{BarBox}
-use Rattle.bar_box.specs.Box.{is_right, sheet_of}
+use Rattle.bar_box.specs.Box.{sheet_of}
 use Rattle.bar_box.specs.History.{Feed, fed, rows_in}
 use Rattle.tallies.specs.declared.table.TallyRow.{TallyRow}
 use Rattle.tallies.specs.declared.feeds.Tallied.{Tallied}
@@ -20,11 +20,11 @@ abbrev pub wrong_tally : ℕ → List TallyRow → Tried
 wrong_tally n tally = tried (not (adds_up n tally)) TooManyBars
 
 -- otherwise it tries what a feed does
-unfoldable pub tally_verdict : Thresholds → ℕ → Bool → List TallyRow → ℕ → ℕ → Verdict
-tally_verdict t n right tally prices sheet = first_true (next_after TooManyBars (wrong_tally n tally ∷ []) (feed_tried t n right prices sheet))
+unfoldable pub tally_verdict : Thresholds → ℕ → List TallyRow → ℕ → ℕ → Verdict
+tally_verdict t n tally prices sheet = first_true (next_after TooManyBars (wrong_tally n tally ∷ []) (feed_tried t n prices sheet))
 
 abbrev pub verdict_with : BarBox → List TallyRow → Feed → Verdict
-verdict_with b tally f = tally_verdict b.thresholds b.count (is_right b) tally (length f.prices) (length f.sheet)
+verdict_with b tally f = tally_verdict b.thresholds b.count tally (length f.prices) (length f.sheet)
 
 -- box and sheet are those of a feed, and its rows are counted; a refusal leaves box, tally and sheet as they were
 unfoldable pub tallied_of : BarBox → List TallyRow → Feed → Tallied

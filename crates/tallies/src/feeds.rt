@@ -19,20 +19,19 @@ pub struct Tallied {
     pub tally: [TallyRow; RECOGNISERS],
 }
 
-// The first of the refusals 3 to 6 that is true of a feed with a tally to a box that counts n bars; right: what it holds is that of its bars. 5
-// also covers a tally with a row that doesn't add up to n.
+// The first of the refusals 3 to 6 that is true of a feed with a tally to a box that counts n bars; 5 also covers a tally with a row that
+// doesn't add up to n.
 pub fn tally_verdict(
     t: Thresholds,
     n: u32,
-    right: bool,
     tally: [TallyRow; RECOGNISERS],
     prices: usize,
     sheet: usize,
 ) -> Verdict
-    ensures { (result ≡ tally_verdict t n right tally prices sheet) × (Shaped tally) }
+    ensures { (result ≡ tally_verdict t n tally prices sheet) × (Shaped tally) }
 {
-    let sums = table::adds_up(tally, n);
-    checked(t, true, n, prices, true, sums & right, sheet)
+    let right = table::adds_up(tally, n);
+    checked(t, true, n, prices, true, right, sheet)
 }
 
 // Takes the lent bars in, writes a row for each and counts it, or refuses and leaves box, tally and sheet as they were.
@@ -42,8 +41,7 @@ pub fn feed(b: BarBox, tally: [TallyRow; RECOGNISERS], prices: &[f64], sheet: &m
 {
     let t = b.thresholds;
     let n = b.count;
-    let right = bar_box::is_right(b);
-    match tally_verdict(t, n, right, tally, prices.len(), sheet.len()) {
+    match tally_verdict(t, n, tally, prices.len(), sheet.len()) {
         Verdict::Denied(why) => Tallied {
             verdict: Verdict::Denied(why),
             after: b,

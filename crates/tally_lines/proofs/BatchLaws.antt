@@ -12,11 +12,11 @@ use Rattle.measures.specs.Bar.{Bar, bars_of, prices_of}
 use Rattle.answers.specs.declared.refusals.Refusal.{Refusal}
 use Rattle.answers.specs.declared.refusals.Verdict.{Verdict, TheVariants.Accepted, TheVariants.Denied}
 use Rattle.recognisers.specs.Number.{row_bytes, most_bars, places}
-use Rattle.recognisers.specs.Refusal.{bad_threshold, too_many_bars, wrong_box, first_true, next_after, feed_tried}
+use Rattle.recognisers.specs.Refusal.{bad_threshold, too_many_bars, first_true, next_after, feed_tried}
 use Rattle.recognisers.specs.Threshold.{valid_of}
 use Rattle.box_record.specs.declared.boxes.BarBox.{BarBox}
-use Rattle.bar_box.specs.Box.{numbered, held, is_right, taken_in}
-use Rattle.bar_box.proofs.BoxLaws.{length-laid, taken-append, right-taken}
+use Rattle.bar_box.specs.Box.{numbered, held, taken_in}
+use Rattle.bar_box.proofs.BoxLaws.{length-laid, taken-append}
 use Rattle.bar_box.proofs.FeedSteps.{fits}
 use Rattle.tallies.specs.declared.table.TallyRow.{TallyRow}
 use Rattle.tallies.specs.declared.feeds.Tallied.{Tallied}
@@ -29,10 +29,10 @@ use Rattle.tally_lines.specs.Session.{bar_feed, fed_all}
 
 -- ---- the verdict of so many whole bars on a sheet that is long enough
 abbrev verdict_for : BarBox → List TallyRow → ℕ → Verdict
-verdict_for b tally n = first_true (bad_threshold b.thresholds ∷ too_many_bars (b.count + n) ∷ wrong_tally b.count tally ∷ wrong_box (is_right b) ∷ [])
+verdict_for b tally n = first_true (bad_threshold b.thresholds ∷ too_many_bars (b.count + n) ∷ wrong_tally b.count tally ∷ [])
 
 module _ (b : BarBox) (tally : List TallyRow) where
-  verdict-bars : (n prices sheet : ℕ) → prices ≡ 4 * n → row_bytes * n ≤ sheet → tally_verdict b.thresholds b.count (is_right b) tally prices sheet ≡ verdict_for b tally n
+  verdict-bars : (n prices sheet : ℕ) → prices ≡ 4 * n → row_bytes * n ≤ sheet → tally_verdict b.thresholds b.count tally prices sheet ≡ verdict_for b tally n
   unfolding tally_verdict feed_tried next_after first_true
   verdict-bars n prices sheet is room =
       let whole : prices % 4 ≡ 0 = omega arith in
@@ -63,11 +63,10 @@ record Fit (b : BarBox) (tally : List TallyRow) (n : ℕ) : Type 0 where
   valid : valid_of b.thresholds ≡ true
   few : b.count + n ≤ most_bars
   adds : adds_up b.count tally ≡ true
-  right : is_right b ≡ true
 
 fit-accepted : (b : BarBox) (tally : List TallyRow) (n : ℕ) → Fit b tally n → verdict_for b tally n ≡ Accepted
 unfolding first_true
-fit-accepted b tally n f = rw (f.valid, le-ltb most_bars (b.count + n) f.few, f.adds, f.right)
+fit-accepted b tally n f = rw (f.valid, le-ltb most_bars (b.count + n) f.few, f.adds)
 
 one-taken : (b : BarBox) (tally : List TallyRow) (bar : Bar) → verdict_for b tally 1 ≡ Accepted → tallied_of b tally (bar_feed bar) ≡ all_taken b tally (bar ∷ [])
 unfolding bars_of prices_of
@@ -80,9 +79,9 @@ all-fed b all tally shaped bar [] f = rw (one-taken b tally bar (fit-accepted b 
 all-fed b all tally shaped bar (next ∷ bars) f =
     let first = bar ∷ [] in
     let count = f.few in
-    let one : Fit b tally 1 = record { valid = f.valid; few = omega arith; adds = f.adds; right = f.right } in
+    let one : Fit b tally 1 = record { valid = f.valid; few = omega arith; adds = f.adds } in
     let rest : Fit (taken_in b first) (counted (rows_from b first) tally) (suc (length bars)) =
-    record { valid = f.valid; few = omega arith; adds = parts_add b all tally shaped first f.adds; right = right-taken b all f.right first } in
+    record { valid = f.valid; few = omega arith; adds = parts_add b all tally shaped first f.adds } in
     let later = all-fed (taken_in b first) (length-laid b.bars (held b ++ numbered b.count first) all) (counted (rows_from b first) tally) (counted-shaped tally shaped (rows_from b first)) next bars rest in
     rw (one-taken b tally bar (fit-accepted b tally 1 one), later, taken-append b all first (next ∷ bars), parts-counted b all tally shaped first (next ∷ bars))
 
@@ -103,9 +102,9 @@ module _ (b : BarBox) (all : length b.bars ≡ places) (tally : List TallyRow) (
       both ∙ sym (first-refused b tally bar bars r first)
   by-verdict (bar ∷ bars) is whole some few room Accepted e =
       let accepted : verdict_with b tally (lent ps sheet) ≡ Accepted = verdict-bars b tally (suc (length bars)) (length ps) (length sheet) whole room ∙ e in
-      let met = fits b.thresholds b.count (is_right b) (length ps) (length sheet) (accepted-plain b tally (lent ps sheet) accepted) in
+      let met = fits b.thresholds b.count (length ps) (length sheet) (accepted-plain b tally (lent ps sheet) accepted) in
       let f : Fit b tally (suc (length bars)) =
-      record { valid = met.valid; few = omega (arith, met.few); adds = accepted-adds b.thresholds b.count (is_right b) tally (length ps) (length sheet) accepted; right = met.right-box } in
+      record { valid = met.valid; few = omega (arith, met.few); adds = accepted-adds b.thresholds b.count tally (length ps) (length sheet) accepted } in
       tallied-accepted b tally (lent ps sheet) accepted ∙ rw is (sym (all-fed b all tally shaped bar bars f))
 
   pub batch-fed : length ps ≡ 4 * length (bars_of ps) → 1 ≤ length (bars_of ps) → (1 < length (bars_of ps) → b.count + length (bars_of ps) ≤ most_bars)

@@ -33,15 +33,15 @@ first-append (x ∷ xs) ys = go x.met (first-append xs ys)
     go true e = refl
     go false e = e
 
-module _ (t : Thresholds) (valid : Bool) (n : ℕ) (right : Bool) (prices : ℕ) (stamps : List ℕ) (sheet : ℕ) (v : Verdict) (e : first_true (checked_tried t valid n prices (eqb (length stamps) (prices / 4)) right sheet) ≡ v) where
+module _ (t : Thresholds) (valid : Bool) (n prices : ℕ) (stamps : List ℕ) (sheet : ℕ) (v : Verdict) (e : first_true (checked_tried t valid n prices (eqb (length stamps) (prices / 4)) true sheet) ≡ v) where
   abbrev as_feed : List Tried
-  as_feed = next_after BadThreshold (bad_layer valid ∷ []) (next_after BrokenBars (broken_bars (eqb (length stamps) (prices / 4)) ∷ []) (feed_tried t n right prices sheet))
+  as_feed = next_after BadThreshold (bad_layer valid ∷ []) (next_after BrokenBars (broken_bars (eqb (length stamps) (prices / 4)) ∷ []) (feed_tried t n prices sheet))
 
   as-feed : first_true as_feed ≡ v
   unfolding checked_tried feed_tried next_after first_true
   as-feed = e
 
-  pub run-checked : (h : Hours) (last : LastStamp) → run_tried t valid h last n right prices stamps sheet ≡ then_tried v (first_true (stamps_tried h last stamps))
+  pub run-checked : (h : Hours) (last : LastStamp) → run_tried t valid h last n prices stamps sheet ≡ then_tried v (first_true (stamps_tried h last stamps))
   unfolding run_tried
   run-checked h last = first-append as_feed (stamps_tried h last stamps) ∙ rw as-feed
 
@@ -64,44 +64,42 @@ layer-meets h m c e =
     let inner = both (valid_hours h) (term_length m) outer.0 in
     record { hours = inner.0; minutes = inner.1; carried = outer.1 }
 
-pub record RunMeets (t : Thresholds) (h : Hours) (m : ℕ) (c : Carried) (n : ℕ) (right : Bool) (prices : ℕ) (stamps : List ℕ) (sheet : ℕ) : Type 0 where
+pub record RunMeets (t : Thresholds) (h : Hours) (m : ℕ) (c : Carried) (n prices : ℕ) (stamps : List ℕ) (sheet : ℕ) : Type 0 where
   pub layer : LayerMeets h m c
   pub one_each : length stamps ≡ prices / 4
-  pub feed : feed_verdict t n right prices sheet ≡ Accepted
+  pub feed : feed_verdict t n prices sheet ≡ Accepted
   pub rising : first_true (stamps_tried h c.last stamps) ≡ Accepted
 
-pub run-meets : (t : Thresholds) (h : Hours) (m : ℕ) (c : Carried) (n : ℕ) (right : Bool) (prices : ℕ) (stamps : List ℕ) (sheet : ℕ)
-    → run_verdict t h m c n right prices stamps sheet ≡ Accepted → RunMeets t h m c n right prices stamps sheet
+pub run-meets : (t : Thresholds) (h : Hours) (m : ℕ) (c : Carried) (n prices : ℕ) (stamps : List ℕ) (sheet : ℕ)
+    → run_verdict t h m c n prices stamps sheet ≡ Accepted → RunMeets t h m c n prices stamps sheet
 unfolding run_tried feed_tried next_after
-run-meets t h m c n right prices stamps sheet none =
+run-meets t h m c n prices stamps sheet none =
     let three = none_true _ _ none in
     let twelve = none_true _ _ three.1 in
     let four = none_true _ _ twelve.1 in
     let another = none_true _ _ four.1 in
     let five = none_true _ _ another.1 in
-    let wrong = none_true _ _ five.1 in
-    let six = none_true _ _ wrong.1 in
+    let six = none_true _ _ five.1 in
     record {
       layer = layer-meets h m c (not-false _ twelve.0);
       one_each = eqb-true _ _ (not-false _ another.0);
-      feed = accepts t n right prices sheet (record { valid = not-false _ three.0; whole = eqb-true _ _ (not-false _ four.0); few = ltb-false _ _ five.0; right-box = not-false _ wrong.0; room = ltb-false _ _ six.0 });
+      feed = accepts t n prices sheet (record { valid = not-false _ three.0; whole = eqb-true _ _ (not-false _ four.0); few = ltb-false _ _ five.0; room = ltb-false _ _ six.0 });
       rising = six.1;
     }
 
-pub record CloseMeets (t : Thresholds) (h : Hours) (m : ℕ) (c : Carried) (n : ℕ) (right : Bool) (sheet : ℕ) : Type 0 where
+pub record CloseMeets (t : Thresholds) (h : Hours) (m : ℕ) (c : Carried) (n sheet : ℕ) : Type 0 where
   pub layer : LayerMeets h m c
-  pub feed : feed_verdict t n right 4 sheet ≡ Accepted
+  pub feed : feed_verdict t n 4 sheet ≡ Accepted
 
-pub close-meets : (t : Thresholds) (h : Hours) (m : ℕ) (c : Carried) (n : ℕ) (right : Bool) (sheet : ℕ) → close_verdict t h m c n right sheet ≡ Accepted → CloseMeets t h m c n right sheet
+pub close-meets : (t : Thresholds) (h : Hours) (m : ℕ) (c : Carried) (n sheet : ℕ) → close_verdict t h m c n sheet ≡ Accepted → CloseMeets t h m c n sheet
 unfolding close_tried feed_tried next_after
-close-meets t h m c n right sheet none =
+close-meets t h m c n sheet none =
     let three = none_true _ _ none in
     let twelve = none_true _ _ three.1 in
     let four = none_true _ _ twelve.1 in
     let five = none_true _ _ four.1 in
-    let wrong = none_true _ _ five.1 in
-    let six = none_true _ _ wrong.1 in
+    let six = none_true _ _ five.1 in
     record {
       layer = layer-meets h m c (not-false _ twelve.0);
-      feed = accepts t n right 4 sheet (record { valid = not-false _ three.0; whole = refl; few = ltb-false _ _ five.0; right-box = not-false _ wrong.0; room = ltb-false _ _ six.0 });
+      feed = accepts t n 4 sheet (record { valid = not-false _ three.0; whole = refl; few = ltb-false _ _ five.0; room = ltb-false _ _ six.0 });
     }

@@ -35,20 +35,19 @@ unfoldable pub make_verdict : Thresholds → Hours → ℕ → Verdict
 make_verdict t h m = first_true (bad_threshold t ∷ bad_layer (valid_layer h m nothing_yet) ∷ [])
 
 -- "A run is checked as a feed of that many bars .., with 4 also for another number of stamps than bars", 12 "next after 3", and 10 and 11 "after 6".
--- valid says that the layer keeps the rules, last is the last stamp, n the box's count, right that what it holds is that of its bars, prices and
--- sheet how many there are
-unfoldable pub run_tried : Thresholds → Bool → Hours → LastStamp → ℕ → Bool → ℕ → List ℕ → ℕ → Verdict
-run_tried t valid h last n right prices stamps sheet =
+-- valid says that the layer keeps the rules, last is the last stamp, n the box's count, prices and sheet how many there are
+unfoldable pub run_tried : Thresholds → Bool → Hours → LastStamp → ℕ → ℕ → List ℕ → ℕ → Verdict
+run_tried t valid h last n prices stamps sheet =
     let another = broken_bars (eqb (length stamps) (prices / 4)) in
-    first_true (next_after BadThreshold (bad_layer valid ∷ []) (next_after BrokenBars (another ∷ []) (feed_tried t n right prices sheet)) ++ stamps_tried h last stamps)
+    first_true (next_after BadThreshold (bad_layer valid ∷ []) (next_after BrokenBars (another ∷ []) (feed_tried t n prices sheet)) ++ stamps_tried h last stamps)
 
 -- ".. and a close as a feed of one", open bar or not
-unfoldable pub close_tried : Thresholds → Bool → ℕ → Bool → ℕ → Verdict
-close_tried t valid n right sheet = first_true (next_after BadThreshold (bad_layer valid ∷ []) (feed_tried t n right 4 sheet))
+unfoldable pub close_tried : Thresholds → Bool → ℕ → ℕ → Verdict
+close_tried t valid n sheet = first_true (next_after BadThreshold (bad_layer valid ∷ []) (feed_tried t n 4 sheet))
 
 -- as a layer that is handed in has it
-abbrev pub run_verdict : Thresholds → Hours → ℕ → Carried → ℕ → Bool → ℕ → List ℕ → ℕ → Verdict
-run_verdict t h m c n right prices stamps sheet = run_tried t (valid_layer h m c) h c.last n right prices stamps sheet
+abbrev pub run_verdict : Thresholds → Hours → ℕ → Carried → ℕ → ℕ → List ℕ → ℕ → Verdict
+run_verdict t h m c n prices stamps sheet = run_tried t (valid_layer h m c) h c.last n prices stamps sheet
 
-abbrev pub close_verdict : Thresholds → Hours → ℕ → Carried → ℕ → Bool → ℕ → Verdict
-close_verdict t h m c n right sheet = close_tried t (valid_layer h m c) n right sheet
+abbrev pub close_verdict : Thresholds → Hours → ℕ → Carried → ℕ → ℕ → Verdict
+close_verdict t h m c n sheet = close_tried t (valid_layer h m c) n sheet

@@ -84,24 +84,22 @@ fn stamps_verdict(h: Hours, m: u32, before: LastStamp, stamps: &[u32]) -> Verdic
     Verdict::Accepted
 }
 
-// The first of the refusals 3, 12, 4, 5, 6, 10 and 11 that is true of a run to a layer whose box counts n bars; right: what the box holds is that of
-// its bars.
+// The first of the refusals 3, 12, 4, 5, 6, 10 and 11 that is true of a run to a layer whose box counts n bars.
 pub fn run_verdict(
     t: Thresholds,
     h: Hours,
     m: u32,
     c: Carried,
     n: u32,
-    right: bool,
     prices: usize,
     stamps: &[u32],
     sheet: usize,
 ) -> Verdict
-    ensures { result ≡ run_verdict t h m c n right prices stamps.now sheet }
+    ensures { result ≡ run_verdict t h m c n prices stamps.now sheet }
 {
     let layer = layer_valid(h, m, c);
     let one_each = stamps.len() == prices / 4;
-    match checked(t, layer, n, prices, one_each, right, sheet) {
+    match checked(t, layer, n, prices, one_each, true, sheet) {
         Verdict::Denied(why) => Verdict::Denied(why),
         Verdict::Accepted => {
             let last = c.last;
@@ -111,17 +109,9 @@ pub fn run_verdict(
 }
 
 // The first of the refusals 3, 12, 5 and 6 that is true of a close.
-pub fn close_verdict(
-    t: Thresholds,
-    h: Hours,
-    m: u32,
-    c: Carried,
-    n: u32,
-    right: bool,
-    sheet: usize,
-) -> Verdict
-    ensures { result ≡ close_verdict t h m c n right sheet }
+pub fn close_verdict(t: Thresholds, h: Hours, m: u32, c: Carried, n: u32, sheet: usize) -> Verdict
+    ensures { result ≡ close_verdict t h m c n sheet }
 {
     let layer = layer_valid(h, m, c);
-    checked(t, layer, n, 4, true, right, sheet)
+    checked(t, layer, n, 4, true, true, sheet)
 }

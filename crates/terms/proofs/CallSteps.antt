@@ -12,13 +12,13 @@ use Rattle.recognisers.specs.Threshold.{Thresholds}
 use Rattle.answers.specs.declared.refusals.Verdict.{Verdict, TheVariants.Accepted, TheVariants.Denied}
 use Rattle.recognisers.specs.Number.{places, row_bytes, most_bars}
 use Rattle.bar_box.specs.Sheet.{rows_of}
-use Rattle.bar_box.specs.Box.{is_right, taken_in, fed_of}
+use Rattle.bar_box.specs.Box.{taken_in, fed_of}
 use Rattle.recognisers.specs.Refusal.{first_true, leaves, feed_verdict}
 use Rattle.bar_box.specs.History.{one_feed, fed, NoBars}
 use Rattle.bar_box.proofs.SheetLaws.{length-rows, rows-newest}
 use Rattle.bar_box.proofs.BoxLaws.{taken-append}
 use Rattle.measures.proofs.PriceLaws.{length-prices}
-use Rattle.bar_box.proofs.FeedSteps.{fits, count-after, kept-after, right-after}
+use Rattle.bar_box.proofs.FeedSteps.{fits, count-after, kept-after}
 use Rattle.trading_hours.specs.declared.hours.Hours.{Hours}
 use Rattle.term_events.specs.declared.events.Carried.{Carried}
 use Rattle.term_events.specs.declared.events.LastStamp.TheVariants.{Never}
@@ -28,7 +28,7 @@ use Rattle.term_events.specs.Events.{Event, Close, nothing_yet, ended_of, carrie
 use Rattle.term_events.specs.Verdicts.{sound_carried, valid_layer, stamps_tried}
 use Rattle.terms.specs.Layer.{layer_with, ended_in, after_events, taken_of, taken_sheet, ran_of, ran_sheet, closed_of, closed_sheet}
 use Rattle.terms.specs.History.{Call, Run, Shut, lent_sheet, events_in, verdict_by, verdict_on, appended, called, sheet_after, rows_of_call, Rising}
-use mathlib.Core.Bool.{Bool, true, ◌&&◌, and-true}
+use mathlib.Core.Bool.{true, ◌&&◌, and-true}
 use Rattle.trading_hours.specs.Hours.{valid_hours, in_hours, term_length}
 use Rattle.trading_hours.specs.TermRule.{TermRule}
 use Rattle.trading_hours.proofs.HourLaws.{term-some}
@@ -42,7 +42,7 @@ use Rattle.terms.proofs.LayerLaws.{box-is, sheet-is}
 -- ---- a call of either kind
 
 abbrev verdict_at : Layer → Call → Verdict
-verdict_at l x = verdict_by l.inner.thresholds (valid_layer l.hours l.minutes l.carried) l.hours l.carried.last l.inner.count (is_right l.inner) x
+verdict_at l x = verdict_by l.inner.thresholds (valid_layer l.hours l.minutes l.carried) l.hours l.carried.last l.inner.count x
 
 called_is : (l : Layer) (x : Call) → called l x ≡ taken_of (verdict_at l x) l (events_in x) (length (lent_sheet x))
 unfolding ran_of closed_of
@@ -55,24 +55,24 @@ sheet-after-is l (Run prices stamps sheet) = refl
 sheet-after-is l (Shut sheet) = refl
 
 -- the box's own feed of the term bars that end is not refused where the call isn't
-pub call-feed : (t : Thresholds) (h : Hours) (m : ℕ) (c : Carried) (n : ℕ) (right : Bool) (x : Call) → verdict_by t (valid_layer h m c) h c.last n right x ≡ Accepted
-    → feed_verdict t n right (length (prices_of (ended_of h m c (events_in x)))) (length (lent_sheet x)) ≡ Accepted
-call-feed t h m c n right (Run prices stamps sheet) e =
-    let met = run-meets t h m c n right (length prices) stamps (length sheet) e in
+pub call-feed : (t : Thresholds) (h : Hours) (m : ℕ) (c : Carried) (n : ℕ) (x : Call) → verdict_by t (valid_layer h m c) h c.last n x ≡ Accepted
+    → feed_verdict t n (length (prices_of (ended_of h m c (events_in x)))) (length (lent_sheet x)) ≡ Accepted
+call-feed t h m c n (Run prices stamps sheet) e =
+    let met = run-meets t h m c n (length prices) stamps (length sheet) e in
     let each : length stamps ≡ length (bars_of prices) = met.one_each ∙ sym (length-bars prices) in
     let es = minutes_of stamps (bars_of prices) in
     let total = length-minutes stamps (bars_of prices) each in
     let few = ended-few h m c es in
     let one_each = met.one_each in
-    bars-accepted t n right (length prices) (length sheet) met.feed (ended_of h m c es) (omega arith)
-call-feed t h m c n right (Shut sheet) e =
-    let met = close-meets t h m c n right (length sheet) e in
+    bars-accepted t n (length prices) (length sheet) met.feed (ended_of h m c es) (omega arith)
+call-feed t h m c n (Shut sheet) e =
+    let met = close-meets t h m c n (length sheet) e in
     let few = ended-few h m c (Close ∷ []) in
-    bars-accepted t n right 4 (length sheet) met.feed (ended_of h m c (Close ∷ [])) (omega arith)
+    bars-accepted t n 4 (length sheet) met.feed (ended_of h m c (Close ∷ [])) (omega arith)
 
 pub box-accepts : (l : Layer) (x : Call) → (called l x).verdict ≡ Accepted → (fed l.inner (one_feed (ended_in l (events_in x)) (lent_sheet x))).verdict ≡ Accepted
 unfolding fed_of
-box-accepts l x e = call-feed _ _ _ _ _ _ x (sym (ap (λ (o : Taken). o.verdict) (called_is l x)) ∙ e)
+box-accepts l x e = call-feed _ _ _ _ _ x (sym (ap (λ (o : Taken). o.verdict) (called_is l x)) ∙ e)
 
 -- the rows that a call fills are no more than a box may count, and its sheet has room for them
 pub rows_fit : (l : Layer) (x : Call) → ((called l x).rows ≤ most_bars) × (row_bytes * (called l x).rows ≤ length (lent_sheet x))
@@ -80,19 +80,19 @@ rows_fit l x = rw (called_is l x) (go (verdict_at l x) refl)
   where
     go : (v : Verdict) → verdict_at l x ≡ v → (leaves v 0 (length (ended_in l (events_in x))) ≤ most_bars) × (row_bytes * leaves v 0 (length (ended_in l (events_in x))) ≤ length (lent_sheet x))
     go Accepted e =
-        let f = fits _ _ _ _ _ (call-feed _ _ _ _ _ _ x e) in
+        let f = fits _ _ _ _ (call-feed _ _ _ _ _ x e) in
         let four = length-prices (ended_in l (events_in x)) in
         (omega (arith, f.few), omega (arith, f.room))
     go (Denied r) e = (omega arith, omega arith)
 
 -- of an accepted call the layer keeps the rules, and no refusal stops the stamps
-call-stamps : (t : Thresholds) (h : Hours) (m : ℕ) (c : Carried) (n : ℕ) (right : Bool) (x : Call) → verdict_by t (valid_layer h m c) h c.last n right x ≡ Accepted
+call-stamps : (t : Thresholds) (h : Hours) (m : ℕ) (c : Carried) (n : ℕ) (x : Call) → verdict_by t (valid_layer h m c) h c.last n x ≡ Accepted
     → LayerMeets h m c × (first_true (stamps_tried h c.last (stamps_in (events_in x))) ≡ Accepted)
 unfolding stamps_in stamps_tried first_true
-call-stamps t h m c n right (Run prices stamps sheet) e =
-    let met = run-meets t h m c n right (length prices) stamps (length sheet) e in
+call-stamps t h m c n (Run prices stamps sheet) e =
+    let met = run-meets t h m c n (length prices) stamps (length sheet) e in
     (met.layer, rw (minutes-stamps stamps (bars_of prices) (met.one_each ∙ sym (length-bars prices))) met.rising)
-call-stamps t h m c n right (Shut sheet) e = ((close-meets t h m c n right (length sheet) e).layer, refl)
+call-stamps t h m c n (Shut sheet) e = ((close-meets t h m c n (length sheet) e).layer, refl)
 
 -- ---- the layer that events left
 
@@ -119,7 +119,7 @@ module _ (l : Layer) (start : NoBars l.inner) where
   verdict-at es x k =
       let last = carried-last l.hours l.minutes nothing_yet es in
       let sound = events-sound l.hours l.minutes nothing_yet es k.0 refl in
-      rw (right-after l.inner start (ended es), count-after l.inner start (ended es), sound, and-true (valid_hours l.hours && term_length l.minutes), last)
+      rw (count-after l.inner start (ended es), sound, and-true (valid_hours l.hours && term_length l.minutes), last)
 
   pub verdict-step : (es : List Event) (x : Call) → Kept es → (called (layer_of es) x).verdict ≡ on es x
   verdict-step es x k = ap (λ (o : Taken). o.verdict) (called_is (layer_of es) x) ∙ verdict-at es x k
@@ -132,7 +132,7 @@ module _ (l : Layer) (start : NoBars l.inner) where
   kept_by : (v : Verdict) (es : List Event) (x : Call) → verdict_at (layer_of es) x ≡ v → Kept es → Kept (leaves v es (es ++ events_in x))
   unfolding Kept
   kept_by Accepted es x e k =
-      let met = call-stamps _ _ _ (carried es) _ _ x e in (
+      let met = call-stamps _ _ _ (carried es) _ x e in (
         stamps-append l.hours Never es (events_in x) k.0 (rw (← carried-last l.hours l.minutes nothing_yet es) met.1),
         λ some. term-rule l.hours l.minutes (term-some _ met.0.minutes) met.0.hours,
       )
@@ -158,7 +158,7 @@ module _ (l : Layer) (start : NoBars l.inner) where
   accepted-layer : (es : List Event) (x : Call) → verdict_at (layer_of es) x ≡ Accepted → after_events (layer_of es) (events_in x) (length (lent_sheet x)) ≡ layer_of (es ++ events_in x)
   accepted-layer es x e =
       let new = events_in x in
-      let feed = call-feed _ _ _ _ _ _ x e in
+      let feed = call-feed _ _ _ _ _ x e in
       rw (
         box-is (layer_of es) new (lent_sheet x) feed,
         taken-append l.inner start.all-places (ended es) (ended_of l.hours l.minutes (carried es) new),
@@ -186,7 +186,7 @@ module _ (l : Layer) (start : NoBars l.inner) where
       let t = l.inner.thresholds in
       let old = ended es in
       let new = ended_in (layer_of es) (events_in x) in
-      let feed = call-feed _ _ _ _ _ _ x e in
+      let feed = call-feed _ _ _ _ _ x e in
       rw (
         sheet-is (layer_of es) (events_in x) (lent_sheet x) feed,
         kept-after l.inner start old,
@@ -206,5 +206,5 @@ module _ (l : Layer) (start : NoBars l.inner) where
 
   -- where the events say that a call is accepted, a feed of its term bars is
   pub events-feed : (es : List Event) (x : Call) → Kept es → on es x ≡ Accepted
-      → feed_verdict l.inner.thresholds (length (ended es)) true (length (prices_of (ended_of l.hours l.minutes (carried es) (events_in x)))) (length (lent_sheet x)) ≡ Accepted
-  events-feed es x k e = rw (right-after l.inner start (ended es), count-after l.inner start (ended es)) at (call-feed _ _ _ (carried es) _ _ x (verdict-at es x k ∙ e))
+      → feed_verdict l.inner.thresholds (length (ended es)) (length (prices_of (ended_of l.hours l.minutes (carried es) (events_in x)))) (length (lent_sheet x)) ≡ Accepted
+  events-feed es x k e = rw (count-after l.inner start (ended es)) at (call-feed _ _ _ (carried es) _ x (verdict-at es x k ∙ e))

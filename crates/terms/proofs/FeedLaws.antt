@@ -1,7 +1,6 @@
 -- A feed of the first bars of a run on a part of the sheet, and of some of the bars of an accepted feed. Assumes nothing.
 use Prim.Native.Nat.{ℕ, ◌+◌, ◌-◌, ◌*◌, ◌/◌, ◌%◌, ◌≤◌}
 use mathlib.Core.Path.{◌≡◌}
-use mathlib.Core.Bool.{Bool}
 use mathlib.Core.List.{List}
 use native.Mathlib.Omega.{arith}
 use borrow.Rule.Slice.PartMut.{put_mid}
@@ -14,42 +13,42 @@ use Rattle.recognisers.specs.Threshold.{Thresholds}
 use Rattle.answers.specs.declared.refusals.Verdict.TheVariants.{Accepted}
 use Rattle.box_record.specs.declared.boxes.BarBox.{BarBox}
 use Rattle.recognisers.specs.Refusal.{feed_verdict}
-use Rattle.bar_box.specs.Box.{taken_in, verdict_of, fed_of, sheet_of}
+use Rattle.bar_box.specs.Box.{taken_in, fed_of, sheet_of}
 use Rattle.measures.proofs.PriceLaws.{length-prices}
 use Rattle.bar_box.proofs.FeedSteps.{fits, accepts}
 use Rattle.bar_box.proofs.PartLaws.{rows_from, rest_of, length_rest, overlay-rest, fed-box, fed-sheet}
 
 -- ---- some of the bars of an accepted feed
 
-module _ (t : Thresholds) (n : ℕ) (right : Bool) (prices sheet : ℕ) (e : feed_verdict t n right prices sheet ≡ Accepted) where
+module _ (t : Thresholds) (n prices sheet : ℕ) (e : feed_verdict t n prices sheet ≡ Accepted) where
   -- a feed of no more bars is accepted, if there is room for their rows
-  pub fewer-accepted : (k p s : ℕ) → p % 4 ≡ 0 → k + p / 4 ≤ n + prices / 4 → row_bytes * (p / 4) ≤ s → feed_verdict t k right p s ≡ Accepted
+  pub fewer-accepted : (k p s : ℕ) → p % 4 ≡ 0 → k + p / 4 ≤ n + prices / 4 → row_bytes * (p / 4) ≤ s → feed_verdict t k p s ≡ Accepted
   fewer-accepted k p s whole few room =
-      let f = fits _ _ _ _ _ e in
-      accepts _ _ _ _ _ (record { valid = f.valid; whole = whole; few = omega (arith, f.few); right-box = f.right-box; room = room })
+      let f = fits _ _ _ _ e in
+      accepts _ _ _ _ (record { valid = f.valid; whole = whole; few = omega (arith, f.few); room = room })
 
   -- after i bars k more
-  pub some-accepted : (i k : ℕ) → i + k ≤ prices / 4 → feed_verdict t (n + i) right (4 * k) (row_bytes * k) ≡ Accepted
+  pub some-accepted : (i k : ℕ) → i + k ≤ prices / 4 → feed_verdict t (n + i) (4 * k) (row_bytes * k) ≡ Accepted
   some-accepted i k le = fewer-accepted (n + i) (4 * k) (row_bytes * k) (omega arith) (omega arith) (omega arith)
 
   -- there is room for their rows
   pub some-room : (i k : ℕ) → i + k ≤ prices / 4 → row_bytes * (i + k) ≤ sheet
-  some-room i k le = omega (arith, (fits _ _ _ _ _ e).room)
+  some-room i k le = omega (arith, (fits _ _ _ _ e).room)
 
   -- on the same sheet
-  pub bars-accepted : (bars : List Bar) → length bars ≤ prices / 4 → feed_verdict t n right (length (prices_of bars)) sheet ≡ Accepted
+  pub bars-accepted : (bars : List Bar) → length bars ≤ prices / 4 → feed_verdict t n (length (prices_of bars)) sheet ≡ Accepted
   bars-accepted bars le =
       let four = length-prices bars in
-      fewer-accepted n (length (prices_of bars)) sheet (omega arith) (omega arith) (omega (arith, (fits _ _ _ _ _ e).room))
+      fewer-accepted n (length (prices_of bars)) sheet (omega arith) (omega arith) (omega (arith, (fits _ _ _ _ e).room))
 
 -- ---- one feed of the first n bars of a run, on the sheet from a row on
 
-module _ (b : BarBox) (ps : List Float) (n : ℕ) (s : List ℕ) (row : ℕ) (e : verdict_of b (4 * n) (row_bytes * n) ≡ Accepted) (enough : 4 * n ≤ length ps) (room : row_bytes * (row + n) ≤ length s) where
-  front-accepted : verdict_of b (length (take (4 * n) ps)) (length (rest_of s (row_bytes * row))) ≡ Accepted
+module _ (b : BarBox) (ps : List Float) (n : ℕ) (s : List ℕ) (row : ℕ) (e : feed_verdict b.thresholds b.count (4 * n) (row_bytes * n) ≡ Accepted) (enough : 4 * n ≤ length ps) (room : row_bytes * (row + n) ≤ length s) where
+  front-accepted : feed_verdict b.thresholds b.count (length (take (4 * n) ps)) (length (rest_of s (row_bytes * row))) ≡ Accepted
   front-accepted =
       let size = length-take-le (4 * n) ps enough in
       let rest = length_rest s (row_bytes * row) in
-      fewer-accepted _ _ _ _ _ e _ _ _ (omega arith) (omega arith) (omega arith)
+      fewer-accepted _ _ _ _ e _ _ _ (omega arith) (omega arith) (omega arith)
 
   pub front-box : (fed_of b (take (4 * n) ps) (length (rest_of s (row_bytes * row)))).after ≡ taken_in b (bars_of (take (4 * n) ps))
   front-box = fed-box b (take (4 * n) ps) (rest_of s (row_bytes * row)) front-accepted

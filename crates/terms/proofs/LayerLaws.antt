@@ -7,13 +7,14 @@ use Rattle.measures.specs.Bar.{overlay, prices_of}
 use Rattle.measures.proofs.PriceLaws.{bars-prices}
 use Rattle.answers.specs.declared.refusals.Verdict.TheVariants.{Accepted}
 use Rattle.bar_box.specs.Sheet.{rows_of}
-use Rattle.bar_box.specs.Box.{kept, taken_in, verdict_of, fed_of, sheet_of}
+use Rattle.recognisers.specs.Refusal.{feed_verdict}
+use Rattle.bar_box.specs.Box.{kept, taken_in, fed_of, sheet_of}
 use Rattle.bar_box.proofs.PartLaws.{fed-box, fed-sheet}
 use Rattle.term_events.specs.Events.{Event, carried_of}
 use Rattle.terms.specs.declared.layers.Layer.{Layer}
 use Rattle.terms.specs.Layer.{ended_in, layer_with, taken, taken_of}
 
-module _ (l : Layer) (es : List Event) (sheet : List ℕ) (e : verdict_of l.inner (length (prices_of (ended_in l es))) (length sheet) ≡ Accepted) where
+module _ (l : Layer) (es : List Event) (sheet : List ℕ) (e : feed_verdict l.inner.thresholds l.inner.count (length (prices_of (ended_in l es))) (length sheet) ≡ Accepted) where
   pub box-is : (fed_of l.inner (prices_of (ended_in l es)) (length sheet)).after ≡ taken_in l.inner (ended_in l es)
   box-is = fed-box l.inner (prices_of (ended_in l es)) sheet e ∙ rw (bars-prices (ended_in l es))
 

@@ -1,7 +1,6 @@
 -- The parts of a run whose feed is accepted, one after the other: each ends term bars, which are fed behind those before them. Assumes nothing.
 use Prim.Native.Nat.{ℕ, ◌+◌, ◌-◌, ◌*◌, ◌/◌, ◌≤◌, ◌<◌}
 use mathlib.Core.Path.{◌≡◌, ap, sym, ◌∙◌}
-use mathlib.Core.Bool.{Bool}
 use mathlib.Core.List.{List, [], ◌++◌}
 use native.Mathlib.Omega.{arith}
 use lib.ListN.{length, take, drop, length-append, length-take, length-drop}
@@ -36,12 +35,12 @@ module _ (h : Hours) (m : ℕ) (c : Carried) (ps : List Float) (ss : List ℕ) (
   carried_to done = carried_of h m c (take (done - from) events_from)
 
   -- what is known of the next part: it passes some bars, and its term bars are accepted behind the old ones
-  pub record PartFits (t : Thresholds) (n : ℕ) (right : Bool) (sheet done : ℕ) (f : Passed) (run : List Float) : Type 0 where
+  pub record PartFits (t : Thresholds) (n sheet done : ℕ) (f : Passed) (run : List Float) : Type 0 where
     pub some : done < f.at
     pub within : f.at ≤ length ss
     pub enough : 4 * f.count ≤ length run
     pub few : length (ended_to done) + f.count ≤ most_bars
-    pub accepted : feed_verdict t (n + length (ended_to done)) right (4 * f.count) (row_bytes * f.count) ≡ Accepted
+    pub accepted : feed_verdict t (n + length (ended_to done)) (4 * f.count) (row_bytes * f.count) ≡ Accepted
     pub room : row_bytes * (length (ended_to done) + f.count) ≤ sheet
     pub count : length (bars_of (take (4 * f.count) run)) ≡ f.count
     pub ended : ended_to f.at ≡ ended_to done ++ bars_of (take (4 * f.count) run)
@@ -59,9 +58,9 @@ module _ (h : Hours) (m : ℕ) (c : Carried) (ps : List Float) (ss : List ℕ) (
       let later : minutes_of (drop done ss) (drop done bars) ≡ drop k events_from = sym (drop-drop k from (minutes_of ss bars) ∙ rw sum_is (minutes-drop done ss bars)) in
       rw later at (passed-by h m bars (carried_to done) done 0 run (drop done ss) here (rw length-drop (omega arith)) (omega arith))
 
-  part_of : length ss ≡ length (bars_of ps) → (t : Thresholds) (n : ℕ) (right : Bool) (sheet : ℕ) → feed_verdict t n right (length ps) sheet ≡ Accepted → (done : ℕ) → from ≤ done → done < length ss → (run : List Float) → 4 ≤ length run
-      → (r : Passed × List Float) → PassedBy h m (carried_to done) (drop (done - from) events_from) done 0 run r → PartFits t n right sheet done r.0 r.1
-  part_of each t n right sheet e done past less run some r by =
+  part_of : length ss ≡ length (bars_of ps) → (t : Thresholds) (n sheet : ℕ) → feed_verdict t n (length ps) sheet ≡ Accepted → (done : ℕ) → from ≤ done → done < length ss → (run : List Float) → 4 ≤ length run
+      → (r : Passed × List Float) → PassedBy h m (carried_to done) (drop (done - from) events_from) done 0 run r → PartFits t n sheet done r.0 r.1
+  part_of each t n sheet e done past less run some r by =
       let es = events_from in
       let k = done - from in
       let old = ended_to done in
@@ -81,19 +80,19 @@ module _ (h : Hours) (m : ℕ) (c : Carried) (ps : List Float) (ss : List ℕ) (
         some = omega (arith, by.at, by.some (omega arith) (omega arith));
         within = omega (arith, by.at, by.within);
         enough = rw (by.prices, length-overlay run 0 (prices_of new) (omega (arith, by.few))) (omega (arith, by.few));
-        few = omega (arith, (fits _ _ _ _ _ e).few);
-        accepted = some-accepted _ _ _ _ _ e (length old) r.0.count sum;
-        room = some-room _ _ _ _ _ e (length old) r.0.count sum;
+        few = omega (arith, (fits _ _ _ _ e).few);
+        accepted = some-accepted _ _ _ _ e (length old) r.0.count sum;
+        room = some-room _ _ _ _ e (length old) r.0.count sum;
         count = rw bars-are (sym count);
         ended = rw bars-are both-ended;
         carried = by.carried ∙ sym (rw to (carried-more h m c es k p));
       }
 
   -- as the code has it
-  pub part-fits : Ready h m c (drop from ss) → length ss ≡ length (bars_of ps) → (t : Thresholds) (n : ℕ) (right : Bool) (sheet : ℕ) → feed_verdict t n right (length ps) sheet ≡ Accepted
+  pub part-fits : Ready h m c (drop from ss) → length ss ≡ length (bars_of ps) → (t : Thresholds) (n sheet : ℕ) → feed_verdict t n (length ps) sheet ≡ Accepted
       → (done : ℕ) → from ≤ done → done < length ss → (run : List Float) → 4 ≤ length run → (carried : Carried) → carried ≡ carried_to done → (f : Passed) (left : List Float)
-      → let r = pass_of h m (bars_of ps) carried (end_after h m carried.last) done 0 run (drop done ss) in (f ≡ r.0) × (left ≡ r.1) → PartFits t n right sheet done f left
-  part-fits ready each t n right sheet e done past less run some carried is f left made = rw (made.0, made.1, is) (part_of each t n right sheet e done past less run some _ (passed-part ready each done past less run))
+      → let r = pass_of h m (bars_of ps) carried (end_after h m carried.last) done 0 run (drop done ss) in (f ≡ r.0) × (left ≡ r.1) → PartFits t n sheet done f left
+  part-fits ready each t n sheet e done past less run some carried is f left made = rw (made.0, made.1, is) (part_of each t n sheet e done past less run some _ (passed-part ready each done past less run))
 
   -- before the first part, and past the last
   pub none-ended : ended_to from ≡ []

@@ -14,9 +14,9 @@ use Rattle.measures.proofs.Overlay.{overlay-none}
 use Rattle.recognisers.specs.Number.{places}
 use Rattle.recognisers.specs.Threshold.{Thresholds, standard_set}
 use Rattle.answers.specs.declared.refusals.Verdict.{Verdict, TheVariants.Accepted, TheVariants.Denied}
-use Rattle.recognisers.specs.Refusal.{leaves}
+use Rattle.recognisers.specs.Refusal.{leaves, feed_verdict}
 use Rattle.bar_box.specs.Sheet.{rows_of}
-use Rattle.bar_box.specs.Box.{taken_in, verdict_of, fed_of, sheet_of, made_of as boxMade}
+use Rattle.bar_box.specs.Box.{taken_in, fed_of, sheet_of, made_of as boxMade}
 use Rattle.bar_box.proofs.BoxLaws.{taken_none}
 use Rattle.bar_box.proofs.Demand3.{standard-valid}
 use Rattle.bar_box.proofs.FeedSteps.{none_true}
@@ -60,16 +60,16 @@ module _ (l : Layer) (ps : List Float) (ss sheet : List ℕ) where
 
   module _ (e : verdict ≡ Accepted) where
     one_each : length ss ≡ length (bars_of ps)
-    one_each = (run-meets _ _ _ _ _ _ _ _ _ e).one_each ∙ sym (length-bars ps)
+    one_each = (run-meets _ _ _ _ _ _ _ _ e).one_each ∙ sym (length-bars ps)
 
     run-ready : Ready h m l.carried ss
     run-ready =
-        let met = run-meets _ _ _ _ _ _ _ _ _ e in
+        let met = run-meets _ _ _ _ _ _ _ _ e in
         record { some = term-some _ met.layer.minutes; valid = met.layer.hours; sound = met.layer.carried; rising = met.rising }
 
     -- the box's own feed is not refused
-    run-feed : verdict_of l.inner (length (prices_of (ended_in l events))) (length sheet) ≡ Accepted
-    run-feed = call-feed _ _ _ _ _ _ (Run ps ss sheet) e
+    run-feed : feed_verdict l.inner.thresholds l.inner.count (length (prices_of (ended_in l events))) (length sheet) ≡ Accepted
+    run-feed = call-feed _ _ _ _ _ (Run ps ss sheet) e
 
     -- what it leaves
     ran-is : taken Accepted (length (ended_in l events)) (layer_with h m (carried_of h m l.carried events) (taken_in l.inner (ended_in l events))) ≡ ran_of l ps ss (length sheet)
@@ -88,7 +88,7 @@ module _ (l : Layer) (ps : List Float) (ss sheet : List ℕ) where
     pub ready : Ready h m f.carried (drop f.at ss)
     pub each : length ss ≡ length (bars_of ps)
     pub within : f.at ≤ length ss
-    pub feed : verdict_of l.inner (length ps) (length sheet) ≡ Accepted
+    pub feed : feed_verdict l.inner.thresholds l.inner.count (length ps) (length sheet) ≡ Accepted
     pub ran : let p = progress_of h m f.carried l.inner (drop f.at events) in taken v p.rows (layer_with h m p.carried p.inner) ≡ ran_of l ps ss (length sheet)
     pub written : overlay sheet 0 (rows_from l.inner (ended_of h m f.carried (drop f.at events))) ≡ ran_sheet l ps ss sheet
 
@@ -126,7 +126,7 @@ module _ (l : Layer) (ps : List Float) (ss sheet : List ℕ) where
             ready = rw carried (ready-after h m c ss (bars_of ps) f.at each (run-ready e));
             each = each;
             within = omega (arith, by.within);
-            feed = (run-meets _ _ _ _ _ _ _ _ _ e).feed;
+            feed = (run-meets _ _ _ _ _ _ _ _ e).feed;
             ran = rw (ended-later, carried_later) (ran-is e);
             written = rw ended-later (ran-sheet-is e);
           };
@@ -164,7 +164,7 @@ module _ (l : Layer) (sheet : List ℕ) where
   unfolding closed_of closed_sheet carried_of rows_of
   closed_none all Accepted e none =
       let ended : ended_in l shut ≡ [] = shut-ended ∙ ap open_bars none in
-      let feed = call-feed _ _ _ _ _ _ (Shut sheet) e in
+      let feed = call-feed _ _ _ _ _ (Shut sheet) e in
       let box : (fed_of l.inner (prices_of (ended_in l shut)) (length sheet)).after ≡ l.inner = box-is l shut sheet feed ∙ rw (ended, taken_none l.inner all) in
       let left : taken_of Accepted l shut (length sheet) ≡ taken Accepted 0 (layer_with l.hours l.minutes (carried_with l.carried.last Nothing) l.inner) = rw (box, ended) in
       let written : taken_sheet Accepted l shut sheet ≡ sheet = sheet-is l shut sheet feed ∙ rw ended (overlay-none sheet 0) in (

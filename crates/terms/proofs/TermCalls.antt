@@ -12,16 +12,16 @@ use Rattle.answers.specs.declared.refusals.Verdict.{Verdict, TheVariants.Accepte
 use Rattle.recognisers.specs.Number.{row_bytes}
 use Rattle.bar_box.specs.Sheet.{rows_of}
 use borrow.Author.Tests.{not-false}
-use Rattle.box_record.specs.declared.boxes.BarBox.{BarBox}
+use Rattle.bar_box.specs.Box.{fed_of}
 use Rattle.recognisers.specs.Refusal.{leaves}
 use Rattle.bar_box.specs.Calls.{after, each}
 use Rattle.bar_box.proofs.CallLists.{kept, built, after-follows, each-follows}
 use Rattle.bar_box.proofs.SheetLaws.{rows_append}
 use Rattle.bar_box.proofs.BoxLaws.{taken_none}
-use Rattle.bar_box.specs.History.{one_feed, fed, history_after, verdict_on as boxVerdictOn, appended as boxAppended}
+use Rattle.bar_box.specs.History.{one_feed, history_after, verdict_on as boxVerdictOn, appended as boxAppended}
 use Rattle.measures.proofs.PriceLaws.{length-prices, bars-prices}
 use Rattle.bar_box.proofs.Demand3.{standard-valid, fresh-none, demand-3}
-use Rattle.bar_box.proofs.FeedSteps.{none_true, fits, verdict-step as box-verdict}
+use Rattle.bar_box.proofs.FeedSteps.{none_true, fits}
 use Rattle.bar_box.proofs.FeedLists.{Sound, sound_empty, one-accepted, one-box, one-rows}
 use Rattle.trading_hours.specs.declared.hours.Hours.{Hours}
 use Rattle.term_events.specs.declared.events.Carried.{Carried}
@@ -113,7 +113,7 @@ module _ (l : Layer) (start : NoneYet l) where
   sound-by Accepted es x e k s =
       let c = carried_of l.hours l.minutes nothing_yet es in
       let new = ended_of l.hours l.minutes c (events_in x) in
-      let met = fits _ _ _ _ _ (events-feed l start.no-bars es x k e) in
+      let met = fits _ _ _ _ (events-feed l start.no-bars es x k e) in
       let four = length-prices new in
       rw (ended-append l.hours l.minutes nothing_yet es (events_in x)) record { few = rw length-append (omega (arith, met.few)); valid = λ some. met.valid }
   sound-by (Denied r) es x e k s = s
@@ -156,12 +156,12 @@ module _ (l : Layer) (start : NoneYet l) where
     module _ (sheet : List ℕ) (room : row_bytes * length (ended events) ≤ length sheet) where
       -- one feed of them gives them for its history
       one-history : history_after t [] (one_feed (ended events) sheet ∷ []) ≡ ended events
-      unfolding after
+      unfolding after fed_of
       one-history =
-          let one = one_feed (ended events) sheet in
-          let no-bars = start.no-bars in
-          let same : (fed l.inner one).verdict ≡ boxVerdictOn t [] one = ap (λ (b : BarBox). (fed b one).verdict) (sym (taken_none l.inner no-bars.all-places)) ∙ box-verdict l.inner no-bars [] one in
-          whole t sheet (ended events) (λ some. sym same ∙ one-accepted l.inner no-bars (ended events) sheet ended-sound room (ended-sound.valid some))
+          whole t sheet (ended events)
+          (λ some.
+          let valid = ended-sound.valid some in
+          rw start.no-bars.none at (one-accepted l.inner start.no-bars (ended events) sheet ended-sound room valid))
 
       holds_after : Holds l xs events (ended events) sheet
       holds_after =

@@ -32,17 +32,16 @@ abbrev pub events_in : Call → List Event
 events_in (Run prices stamps sheet) = minutes_of stamps (bars_of prices)
 events_in (Shut sheet) = Close ∷ []
 
--- a call's verdict, by the thresholds, whether the layer keeps the rules, the hours, the last stamp, the count of term bars, and whether what the
--- box holds of them is right
-abbrev pub verdict_by : Thresholds → Bool → Hours → LastStamp → ℕ → Bool → Call → Verdict
-verdict_by t valid h last n right (Run prices stamps sheet) = run_tried t valid h last n right (length prices) stamps (length sheet)
-verdict_by t valid h last n right (Shut sheet) = close_tried t valid n right (length sheet)
+-- a call's verdict, by the thresholds, whether the layer keeps the rules, the hours, the last stamp, and the count of term bars
+abbrev pub verdict_by : Thresholds → Bool → Hours → LastStamp → ℕ → Call → Verdict
+verdict_by t valid h last n (Run prices stamps sheet) = run_tried t valid h last n (length prices) stamps (length sheet)
+verdict_by t valid h last n (Shut sheet) = close_tried t valid n (length sheet)
 
 module _ (t : Thresholds) (h : Hours) (m : ℕ) where
   -- a call is refused exactly as the list of refusals says, with the stamp of the last bar of the events and the count of the term bars that
-  -- ended in them; 12 is for the hours and the term length alone, and what the box holds of the ended term bars is right
+  -- ended in them; 12 is for the hours and the term length alone
   abbrev pub verdict_on : List Event → Call → Verdict
-  verdict_on es x = verdict_by t (valid_hours h && term_length m) h (stamp_after Never es) (length (ended_of h m nothing_yet es)) true x
+  verdict_on es x = verdict_by t (valid_hours h && term_length m) h (stamp_after Never es) (length (ended_of h m nothing_yet es)) x
 
   -- it then leaves the list as it is; any other call appends its bars, or its close
   abbrev pub appended : List Event → Call → List Event

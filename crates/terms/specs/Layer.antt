@@ -5,7 +5,7 @@ use Rattle.recognisers.specs.Threshold.{Thresholds, standard_set}
 use Rattle.answers.specs.declared.refusals.Verdict.{Verdict, TheVariants.Accepted, TheVariants.Denied}
 use Rattle.recognisers.specs.Refusal.{leaves}
 use Rattle.box_record.specs.declared.boxes.BarBox.{BarBox}
-use Rattle.bar_box.specs.Box.{fresh_box, is_right, fed_of, sheet_of}
+use Rattle.bar_box.specs.Box.{fresh_box, fed_of, sheet_of}
 use Rattle.trading_hours.specs.declared.hours.Hours.{Hours}
 use Rattle.trading_hours.specs.Hours.{day_minutes, window_from, no_window, hours_with, with_zeros}
 use Rattle.term_events.specs.declared.events.Carried.{Carried}
@@ -58,10 +58,10 @@ abbrev pub taken_sheet : Verdict → Layer → List Event → List ℕ → List 
 taken_sheet v l es sheet = leaves v sheet (sheet_of l.inner (prices_of (ended_in l es)) sheet)
 
 abbrev pub run_verdict_of : Layer → ℕ → List ℕ → ℕ → Verdict
-run_verdict_of l prices stamps sheet = run_verdict l.inner.thresholds l.hours l.minutes l.carried l.inner.count (is_right l.inner) prices stamps sheet
+run_verdict_of l prices stamps sheet = run_verdict l.inner.thresholds l.hours l.minutes l.carried l.inner.count prices stamps sheet
 
 abbrev pub close_verdict_of : Layer → ℕ → Verdict
-close_verdict_of l sheet = close_verdict l.inner.thresholds l.hours l.minutes l.carried l.inner.count (is_right l.inner) sheet
+close_verdict_of l sheet = close_verdict l.inner.thresholds l.hours l.minutes l.carried l.inner.count sheet
 
 -- a run
 unfoldable pub ran_of : Layer → List Float → List ℕ → ℕ → Taken

@@ -3,9 +3,9 @@ ghost use Rattle.std.specs.Prelude.{◌≡◌, [], ◌∷◌, ◌+◌, ◌*◌, 
 ghost use Rattle.measures.specs.Bar.{bars_of, overlay, prices_of};
 ghost use Rattle.answers.specs.declared.refusals.Verdict.TheVariants.{Accepted};
 ghost use Rattle.recognisers.specs.Number.{row_bytes};
-ghost use Rattle.recognisers.specs.Refusal.{leaves, verdict_number};
+ghost use Rattle.recognisers.specs.Refusal.{leaves, verdict_number, feed_verdict};
 ghost use Rattle.bar_box.specs.Sheet.{rows_of};
-ghost use Rattle.bar_box.specs.Box.{kept, taken_in, verdict_of, fed_of, sheet_of};
+ghost use Rattle.bar_box.specs.Box.{kept, taken_in, fed_of, sheet_of};
 ghost use Rattle.term_events.specs.declared.events.OpenBar.TheVariants.{Nothing};
 ghost use Rattle.term_events.specs.Events.{ended_of, minutes_of};
 ghost use Rattle.term_events.specs.EventSteps.{Ready};
@@ -28,7 +28,7 @@ const ROOM_BARS: usize = 32;
 // Feeds the first n bars of a run of prices; their rows go to a row of the sheet and those after it. What the feed hands back is handed on: a
 // box that is taken out of it is copied.
 fn feed_front(b: BarBox, run: &[f64], n: usize, sheet: &mut [u8], row: usize) -> Outcome
-    requires { (verdict_of b (4 * n) (row_bytes * n) ≡ Accepted) × ((4 * n ≤ length run.now) × (row_bytes * (row + n) ≤ length sheet.old)) }
+    requires { (feed_verdict b.thresholds b.count (4 * n) (row_bytes * n) ≡ Accepted) × ((4 * n ≤ length run.now) × (row_bytes * (row + n) ≤ length sheet.old)) }
     ensures { (result.after ≡ taken_in b (bars_of (take (4 * n) run.now))) × (sheet.new ≡ overlay sheet.old (row_bytes * row) (rows_of b.thresholds b.count (kept b) (bars_of (take (4 * n) run.now)))) }
 {
     let end = 4 * n;
@@ -56,7 +56,7 @@ fn take_bars(
     from: usize,
     sheet: &mut [u8],
 ) -> Progress
-    requires { (Ready h m c (drop from stamps.now)) × (length stamps.now ≡ length (bars_of prices.now)) × (from ≤ length stamps.now) × (verdict_of b (length prices.now) (length sheet.old) ≡ Accepted) }
+    requires { (Ready h m c (drop from stamps.now)) × (length stamps.now ≡ length (bars_of prices.now)) × (from ≤ length stamps.now) × (feed_verdict b.thresholds b.count (length prices.now) (length sheet.old) ≡ Accepted) }
     ensures { let es = drop from (minutes_of stamps.now (bars_of prices.now)) in
         (result ≡ progress_of h m c b es) × (sheet.new ≡ overlay sheet.old 0 (rows_of b.thresholds b.count (kept b) (ended_of h m c es))) }
 {
@@ -100,15 +100,12 @@ pub fn run(l: Layer, prices: &[f64], stamps: &[u32], sheet: &mut [u8]) -> Taken
     let h = l.hours;
     let m = l.minutes;
     let c = l.carried;
-    let b = l.inner;
-    let right = bar_box::is_right(b);
     let verdict = verdicts::run_verdict(
-        b.thresholds,
+        l.inner.thresholds,
         h,
         m,
         c,
-        b.count,
-        right,
+        l.inner.count,
         prices.len(),
         stamps,
         sheet.len(),
@@ -126,6 +123,7 @@ pub fn run(l: Layer, prices: &[f64], stamps: &[u32], sheet: &mut [u8]) -> Taken
             verdict,
         };
     }
+    let b = l.inner;
     let p = take_bars(b, h, m, carried, prices, stamps, front.at, sheet);
     let inner = p.inner;
     let left = p.carried;
@@ -168,14 +166,12 @@ pub fn close(l: Layer, sheet: &mut [u8]) -> Taken
     ensures number { verdict_number result.verdict ≡ verdict_number (close_verdict_of l (length sheet.old)) }
 {
     let c = l.carried;
-    let right = bar_box::is_right(l.inner);
     let verdict = verdicts::close_verdict(
         l.inner.thresholds,
         l.hours,
         l.minutes,
         c,
         l.inner.count,
-        right,
         sheet.len(),
     );
     let pending = c.pending;

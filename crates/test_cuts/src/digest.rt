@@ -1,8 +1,7 @@
 // Digests: equal things have equal ones, and things that differ nearly always do not.
 use bar_box::{BarBox, KeptBar};
-use held_extremes::HeldExtremes;
 use measures::{Bar, least};
-use recognisers::counts::{PLACES, QUARTER_BARS, RECOGNISERS};
+use recognisers::counts::{PLACES, RECOGNISERS};
 use recognisers::{LookAnswer, answer_in, answer_number, ordinal_in};
 
 // The largest prime below 2^32, and what a digest is multiplied by at each step: no product reaches 2^64.
@@ -25,18 +24,14 @@ pub fn mix(d: u64, x: u64) -> u64 {
     (d % PRIME * FACTOR + x % WORD) % PRIME
 }
 
-// A price's bits. The logic has one NaN, and its bits cannot be asked for.
-pub fn bits_of(x: f64) -> u64 {
+// A digest after a price's bits. The logic has one NaN, and its bits cannot be asked for.
+fn mix_price(d: u64, x: f64) -> u64 {
     let nan = measures::is_nan(x);
-    if nan {
+    let bits = if nan {
         0x7FF8_0000_0000_0000
     } else {
         f64::to_bits(x)
-    }
-}
-
-fn mix_price(d: u64, x: f64) -> u64 {
-    let bits = bits_of(x);
+    };
     mix(mix(d, bits / WORD), bits)
 }
 
@@ -69,34 +64,10 @@ pub fn of_places(bars: [KeptBar; PLACES], from: usize, to: usize) -> u64 {
     d
 }
 
-fn mix_candidates(d: u64, places: [u32; QUARTER_BARS]) -> u64 {
-    let mut e = d;
-    let mut i = 0usize;
-    while i < QUARTER_BARS {
-        e = mix(e, places[i] as u64);
-        i += 1;
-    }
-    e
-}
-
-// A digest after what a box holds of its newest 20 bars.
-pub fn mix_held(d: u64, h: HeldExtremes) -> u64 {
-    let highs = h.highs;
-    let lows = h.lows;
-    let values = mix_price(mix_price(d, h.highest), h.lowest);
-    mix_candidates(mix_candidates(values, highs), lows)
-}
-
-// A digest of all places after the count and what is held.
-pub fn mix_rest(d: u64, count: u64, h: HeldExtremes) -> u64 {
-    mix_held(mix(d, count), h)
-}
-
-// Of all that a box has but its thresholds.
+// Of the count and of all places.
 pub fn of_box(b: BarBox) -> u64 {
     let bars = b.bars;
-    let h = b.extremes;
-    mix_rest(of_places(bars, 0, PLACES), b.count as u64, h)
+    mix(of_places(bars, 0, PLACES), b.count as u64)
 }
 
 pub fn of_bytes(s: &[u8]) -> u64 {

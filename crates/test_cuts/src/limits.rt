@@ -1,5 +1,5 @@
 // Refusals and limits of the box.
-use crate::cuts::{SHEET, feed_to, part, verdict_number};
+use crate::cuts::{SHEET, feed_to, verdict_number};
 use crate::digest::{KINDS, of_box, of_bytes, of_places};
 use crate::print;
 use bar_box::BarBox;
@@ -61,30 +61,12 @@ pub fn feed(b: BarBox, prices: &[f64], lent: usize) -> BarBox {
     after
 }
 
-// Tries a feed of one bar and a look at the newest. Writes their refusals, 0 for none, and whether the feed left box and sheet as they were.
-pub fn write_tried(b: BarBox, prices: &[f64]) {
-    let mut sheet = [255u8; SMALL_SHEET];
-    let blank = of_bytes(&sheet);
-    let out = feed_to(b, part(prices, 0, 4), &mut sheet, 0, SMALL_SHEET);
-    let after = out.after;
-    let verdict = out.verdict;
-    print::number(b": feed ", verdict_number(verdict));
-    print::number(b" look ", look_refusal(bar_box::look(b, 0, 1)));
-    print::stays((of_box(after) == of_box(b)) & (of_bytes(&sheet) == blank));
-}
-
 pub fn write_places(b: BarBox) {
     let bars = b.bars;
     print::number(b": count ", b.count as u64);
     print::digest(b", 0 to 9 ", of_places(bars, 0, 10));
     print::digest(b", 10 to 12 ", of_places(bars, 10, 13));
     print::digest(b", 13 to 63 ", of_places(bars, 13, PLACES));
-}
-
-// 0, or the number of the refusal.
-fn look_refusal(a: LookAnswer) -> u64 {
-    let n = answer_number(answer_in(a)) as u64;
-    if n < 65536 { 0 } else { n - 65536 }
 }
 
 // The judged bar's ordinal; a refused look has none.

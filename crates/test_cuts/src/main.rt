@@ -1,5 +1,5 @@
 // Cuts histories into feeds in many ways and writes digests of what each cut leaves: the sheet, the box and all looks are those of
-// the plain call and of a plain recount, however the history is cut. Then the refusals and the limits of the box.
+// the plain call, however the history is cut. Then the refusals and the limits of the box.
 //
 // Standard input has a step on each line: a word, of which the first letter says what is done, numbers, and after a bar the text that
 // begins the line that the step writes. A float F has two decimals, or is as x0 to x11 one of script::UNUSUAL.
@@ -15,26 +15,16 @@
 //   make F                a box: that of a making with th8 = F, which is 2.00 in the standard set
 //   occupied F            a box that counts no bars and whose places hold F and the ordinal 7
 //   grow N                the box after a feed of the history's first N bars
-//   edit F N              the box with th8 = F and a count of N, as a caller can fill it in; it holds of its newest 20 bars what it held
-//   due                   the box with what it should hold of them, by a recount
-//   borrow N              the box with what one holds that was fed the history's first N bars
-//   quote S F             the box with F for its highest high (S is 0), or lowest low (1)
-//   unit S N              the box with that value N units in the last place further
-//   number S N N          the box with, in a place of the candidates for it, an ordinal
-//   kept N                the box with the ordinal N in every place of its bars
+//   edit F N              the box with th8 = F and a count of N, as a caller can fill it in
 //   feed N N N            a feed of the history's prices from one on, before another, that is lent so many bytes of a sheet
 //   look N N              a look: recogniser, offset
 //   all N                 the looks of all recognisers at an offset
 //   inside                what the places of the box hold
-//   window                what it holds of its newest 20 bars, and whether a recount gives the same
-//   judge                 the refusals of a feed of the history's first bar and of a look, 0 for none, and whether the feed left box and
-//                         sheet as they were; the box stays
 // Any other line is a comment. The histories were written by generators from the seed 20221118, and are kept as they came.
 //
 // Every function is proved safe and ending; what is written is seen in the file stdout, which the gate holds this program to.
 mod cuts;
 mod digest;
-mod extremes;
 mod labels;
 mod limits;
 mod plain;
@@ -134,51 +124,35 @@ fn occupied(x: f64) -> BarBox {
         bar,
         ordinal: FILLED,
     };
-    let mut b = bar_box::fresh(Thresholds::standard());
-    b.bars = [place; PLACES];
-    b
-}
-
-// The box with other thresholds and another count.
-fn edited(held: BarBox, th8: f64, count: u32) -> BarBox {
-    let mut b = held;
-    b.thresholds = limits::changed(8, th8, 0);
-    b.count = count;
-    b
-}
-
-// The box after a step that changes what it holds of its newest 20 bars, or ordinals.
-fn refilled(held: BarBox, line: Line, prices: &[f64]) -> BarBox {
-    let letter = line.letter;
-    let n = (line.d % WORD) as u32;
-    match letter {
-        b'd' => extremes::due(held),
-        b'b' => extremes::borrowed(held, measures::first_bars(prices, line.d as usize)),
-        b'q' => extremes::with_value(held, line.c != 0, float(line.d)),
-        b'u' => extremes::with_units(held, line.c != 0, line.d),
-        b'n' => extremes::with_candidate(held, line.b != 0, line.c as usize, n),
-        b'k' => extremes::with_ordinal(held, n),
-        _ => held,
+    BarBox {
+        thresholds: Thresholds::standard(),
+        count: 0,
+        bars: [place; PLACES],
     }
 }
 
 // The box after a step.
 fn box_after(held: BarBox, line: Line, prices: &[f64]) -> BarBox {
     let letter = line.letter;
+    let bars = held.bars;
     match letter {
         b'm' => {
             let made = bar_box::make(limits::changed(8, float(line.d), 0));
             made.after
         }
         b'o' => occupied(float(line.d)),
-        b'e' => edited(held, float(line.c), (line.d % WORD) as u32),
+        b'e' => BarBox {
+            thresholds: limits::changed(8, float(line.c), 0),
+            count: (line.d % WORD) as u32,
+            bars,
+        },
         b'g' => limits::fed(held, measures::first_bars(prices, line.d as usize)),
         b'f' => limits::feed(
             held,
             cuts::part(prices, line.b as usize, line.c as usize),
             line.d as usize,
         ),
-        _ => refilled(held, line, prices),
+        _ => held,
     }
 }
 
@@ -238,11 +212,6 @@ fn write(line: Line, held: BarBox, prices: &[f64]) {
         b'l' => limits::write_look(held, (line.c % WORD) as u32, n),
         b'a' => limits::write_looks(held, n),
         b'i' => limits::write_places(held),
-        b'w' => {
-            extremes::write(held);
-            write_same(extremes::is_due(held));
-        }
-        b'j' => limits::write_tried(held, prices),
         _ => {}
     }
 }

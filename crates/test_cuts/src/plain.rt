@@ -1,8 +1,7 @@
-// What a history leaves, told without a box: its rows and looks by the plain call over all its bars, its places by their prices, all
-// ordinals by how many bars it has, and what is held by a recount.
+// What a history leaves, told without a box: its rows and looks by the plain call over all its bars, its places by their prices, and all
+// ordinals by how many bars it has.
 use crate::cuts::{BARS, Left, SHEET};
-use crate::digest::{LOOKS, OFFSETS, mix_look, mix_place, mix_rest, of_bytes};
-use crate::extremes::recounted;
+use crate::digest::{LOOKS, OFFSETS, mix, mix_look, mix_place, of_bytes};
 use measures::{Bar, least};
 use recognisers::counts::{FARTHEST_LOOK, PLACES, RECOGNISERS};
 use recognisers::refusals::refusal_number;
@@ -106,11 +105,9 @@ fn of_looks(prices: &[f64]) -> u64 {
 // The digests that every cut should leave.
 pub fn left(prices: &[f64]) -> Left {
     let sheet = rows(prices);
-    let n = least(measures::count(prices), BARS) as u32;
-    let held = recounted(prices, n);
     Left {
         sheet: of_bytes(&sheet),
-        places: mix_rest(of_places(prices), n as u64, held),
+        places: mix(of_places(prices), measures::count(prices) as u64),
         looks: of_looks(prices),
     }
 }

@@ -6,24 +6,10 @@ pub fn byte(b: u8) {
     io::write_all(STDOUT_FILENO, &one);
 }
 
-pub fn stays(same: bool) {
-    if same {
-        io::write_all(STDOUT_FILENO, b" stays");
-    } else {
-        io::write_all(STDOUT_FILENO, b" changes");
-    }
-}
-
 // Text, then a number in decimal.
 pub fn number(s: &[u8], n: u64) {
     io::write_all(STDOUT_FILENO, s);
     io::print_decimal(STDOUT_FILENO, n);
-}
-
-// Text, then a float's bits in sixteen hexadecimal digits.
-pub fn bits(s: &[u8], n: u64) {
-    io::write_all(STDOUT_FILENO, s);
-    io::print_hex(STDOUT_FILENO, n, 16);
 }
 
 // Text, then a digest in eight hexadecimal digits.

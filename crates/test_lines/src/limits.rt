@@ -1,12 +1,11 @@
 // Sessions that a caller filled, and buffers without room, a line each.
 use crate::run::first;
 use crate::{print, run};
-use held_extremes::held_of;
+use bar_box::{BarBox, KeptBar};
 use label_lines::session::ROOM;
 use label_lines::{Session, session};
-use measures::{first_bars, price};
+use measures::{Bar, price};
 use recognisers::Thresholds;
-use recognisers::counts::QUARTER_BARS;
 
 // A byte less than the room for what a line may print.
 const SHORT: usize = ROOM - 1;
@@ -23,13 +22,22 @@ fn thresholds(th14_above: bool, th0_nan: bool) -> Thresholds {
     t
 }
 
-// A session whose box counts so many bars, all of zeros, and holds what these give.
+// A session whose box counts so many bars, all of zeros.
 fn filled(thresholds: Thresholds, count: u32) -> Session {
-    let zeros = [0.0; 4 * QUARTER_BARS];
-    let kept = first_bars(&zeros, count as usize);
-    let mut held = bar_box::fresh(thresholds);
-    held.count = count;
-    held.extremes = held_of(kept, count);
+    let zeros = KeptBar {
+        bar: Bar {
+            open: 0.0,
+            close: 0.0,
+            high: 0.0,
+            low: 0.0,
+        },
+        ordinal: 0,
+    };
+    let held = BarBox {
+        thresholds,
+        count,
+        bars: [zeros; 64],
+    };
     let mut st = session::begin();
     st.held = held;
     st

@@ -5,10 +5,8 @@
 //   r B P S S ..              a run that is lent so many bytes of a sheet and so many prices, with these stamps
 //   c B                       a close that is lent so many bytes
 //   e W V                     the layer as a caller can fill it in, by what is set: 0 the term length, 1 the count of windows, 2 the last
-//                             stamp, 3 no last stamp, 4 an open bar, 5 none, 6 N, with what the box then shall hold, 7 a threshold outside
-//                             its limits, 8 the to of the fourth window; and what the box holds: 9 the highest high and 10 the lowest
-//                             low, 0 for zero, 1 for minus zero and 2 for two, 11 the first candidate for the highest, 12 the last
-//                             place of those for the lowest
+//                             stamp, 3 no last stamp, 4 an open bar, 5 none, 6 N, 7 a threshold outside its limits, 8 the to of the fourth
+//                             window
 // Any other line is a comment. For each step a line is written: its letter; of a call the refusal or 0, the rows filled and how many of
 // the sheet's bytes, which are sevens before, are none after it; and the layer: N, the last stamp or -, the open bar's prices or -, the term length, and the
 // windows, with those of the unused places behind a bar.

@@ -1,10 +1,8 @@
 // The steps: calls, and layers that a caller filled.
 use crate::print;
 use crate::script::{Line, number};
-use bar_box::BarBox;
-use held_extremes::{HeldExtremes, held_of};
 use measures::{Bar, least};
-use recognisers::counts::{PLACES, ROW_BYTES};
+use recognisers::counts::ROW_BYTES;
 use recognisers::export::of_bits;
 use recognisers::refusals::refusal_number;
 use recognisers::{Thresholds, Verdict};
@@ -168,74 +166,20 @@ fn with_hours(h: Hours, what: u32, value: u32) -> Hours {
     after
 }
 
-// The box with N set, holding what it shall of the bars that it then keeps.
-fn with_count(b: BarBox, n: u32) -> BarBox {
-    let kept = least(n as usize, PLACES);
-    let bars = b.bars;
-    let mut prices = [0.0; 4 * PLACES];
-    let mut i = 0usize;
-    while i < kept {
-        let place = bars[i];
-        let bar = place.bar;
-        measures::put_bar(bar, &mut prices, i);
-        i += 1;
-    }
-    let end = 4 * kept;
-    let mut after = b;
-    after.count = n;
-    after.extremes = held_of(&prices[..end], n);
-    after
-}
-
-// A value for the box to hold.
-fn held_value(value: u32) -> f64 {
-    match value {
-        0 => 0.0,
-        1 => -0.0,
-        _ => 2.0,
-    }
-}
-
-// What the box holds, with a value or a candidate set.
-fn with_held(h: HeldExtremes, what: u32, value: u32) -> HeldExtremes {
-    let mut after = h;
-    match what {
-        9 => after.highest = held_value(value),
-        10 => after.lowest = held_value(value),
-        11 => after.highs[0] = value,
-        12 => after.lows[19] = value,
-        _ => {}
-    }
-    after
-}
-
-// The box with N, a threshold or something that it holds set.
-fn with_box(b: BarBox, what: u32, value: u32) -> BarBox {
-    if what == 6 {
-        return with_count(b, value);
-    }
-    let held = b.extremes;
-    let mut after = b;
-    after.extremes = with_held(held, what, value);
-    if what == 7 {
-        after.thresholds.th8 = 10001.0;
-    }
-    after
-}
-
 // The layer with one thing set.
 fn edit(l: Layer, line: Line) -> Layer {
     let what = number(line, 1);
     let value = number(line, 2);
     let c = l.carried;
     let h = l.hours;
-    let b = l.inner;
     let mut after = l;
     after.carried = with_carried(c, what, value);
     after.hours = with_hours(h, what, value);
-    after.inner = with_box(b, what, value);
-    if what == 0 {
-        after.minutes = value;
+    match what {
+        0 => after.minutes = value,
+        6 => after.inner.count = value,
+        7 => after.inner.thresholds.th8 = 10001.0,
+        _ => {}
     }
     print::text(b"e");
     print::layer(after);

@@ -1,4 +1,4 @@
-//! Two versions of `jcc_feed` in one program and one run, in turn, over some walks.
+//! Two versions of `jcc_feed` in one program and one run, in turn, over two walks.
 //!
 //!     turns                           prints how many bars a second each of them labels
 //!     turns VERSION WALK SIZE BARS    feeds one of them a walk's first bars, to count instructions
@@ -31,7 +31,7 @@ fn feed_once(version: &str, walk: &str, size: &str, bars: &str) -> Result<(), St
     let version = VERSIONS.iter().find(|v| v.name == version);
     let version = version.ok_or("VERSION is before or after")?;
     let walk = WALKS.iter().find(|w| w.name == walk);
-    let walk = walk.ok_or("no such WALK")?;
+    let walk = walk.ok_or("WALK is plain or middles")?;
     let bars = number(bars)?;
     let mut sheet = vec![0; bars * ROW_BYTES];
     feed(version.feed, number(size)?, &walk.prices(bars), &mut sheet);

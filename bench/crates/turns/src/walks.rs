@@ -1,8 +1,8 @@
-//! The walks, and what the plain port says of them.
+//! The two walks, and what the plain port says of them.
 
 use inputs::long_middles::long_middles;
 use inputs::rng::Rng;
-use inputs::walk::{falling, market, rising};
+use inputs::walk::market;
 use jcc_types::{Bar, Label, ROW_BYTES};
 use measure::{SEED, digest, sizes, thresholds};
 
@@ -14,7 +14,7 @@ pub struct Walk {
     bars: fn(&mut Rng, usize) -> Vec<Bar>,
 }
 
-pub const WALKS: [Walk; 4] = [
+pub const WALKS: [Walk; 2] = [
     Walk {
         name: "plain",
         title: "plain walk",
@@ -26,18 +26,6 @@ pub const WALKS: [Walk; 4] = [
         title: "long middles",
         stream: 1,
         bars: long_middles,
-    },
-    Walk {
-        name: "falling",
-        title: "falling walk",
-        stream: 2,
-        bars: falling,
-    },
-    Walk {
-        name: "rising",
-        title: "rising walk",
-        stream: 3,
-        bars: rising,
     },
 ];
 

@@ -41,8 +41,8 @@ impl Judge {
         }
     }
 
-    /// A history in many cuts, with a look at the newest bar and an ordinal for each, and some looks at
-    /// it. After an error the trial is the one that was wrong.
+    /// A history in many cuts, with an ordinal for each, and some looks at it. After an error the trial
+    /// is the one that was wrong.
     pub fn try_history(&mut self, trial: &mut Trial, rng: &mut Rng) -> Result<(), String> {
         let count = trial.bars.len();
         let rows = self.rows(trial)?;
@@ -57,7 +57,6 @@ impl Judge {
         let plain = check_plain_box(&rows, trial)?;
         for sizes in cuts {
             trial.sizes = sizes;
-            self.try_look(&rows, &plain, trial, looks::newest(rng))?;
             self.try_ordinal(&rows, &plain, trial, looks::random(rng, count))?;
         }
         for _ in 0..look_count(count) {

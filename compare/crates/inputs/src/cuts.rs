@@ -3,15 +3,13 @@
 
 use crate::rng::Rng;
 
-/// Where a box changes: the first bar, the newest twenty and their next, the quarter's 22, 12's gate,
-/// and the kept bars.
-const PLACES: [u32; 16] = [1, 2, 19, 20, 21, 22, 23, 24, 39, 40, 41, 42, 43, 63, 64, 65];
+/// Where a box changes: the first bar, the quarter's 22, 12's gate, and the kept bars.
+const PLACES: [u32; 8] = [1, 21, 22, 23, 24, 63, 64, 65];
 
-/// All at once, one bar at a time, one cut at each of the places, counted from the first bar or from the
-/// newest, and random ones.
+/// All at once, one bar at a time, one cut at each of the places, and random ones.
 pub fn all(rng: &mut Rng, count: usize) -> Vec<Vec<u32>> {
     let mut cuts = vec![Vec::new(), vec![1; count]];
-    cuts.extend(places_within(count).map(|place| vec![from_an_end(rng, place, count)]));
+    cuts.extend(places_within(count).map(|place| vec![place]));
     cuts.extend((0..6).map(|_| random(rng, count)));
     cuts
 }
@@ -25,14 +23,6 @@ pub fn random(rng: &mut Rng, count: usize) -> Vec<u32> {
         3 => any_sizes(rng, count, 3),
         4 => any_sizes(rng, count, 70),
         _ => with_empty_feeds(rng, count),
-    }
-}
-
-fn from_an_end(rng: &mut Rng, place: u32, count: usize) -> u32 {
-    if rng.one_in(2) {
-        place
-    } else {
-        count as u32 - place
     }
 }
 

@@ -2,7 +2,6 @@
 
 use crate::Case;
 use crate::boundaries;
-use crate::extremes;
 use crate::hostile::{perturb, spoil, spoil_bodies};
 use crate::middles;
 use crate::planted::{planted, planted_tower};
@@ -56,17 +55,16 @@ pub const FAMILIES: [Family; 10] = [
 pub const LONG: usize = 2;
 
 /// The families whose histories, one after the other, make the history of a box.
-pub const PIECES: [Family; 10] = [
-    family("walks", walks, 10),
-    family("small", small, 5),
-    family("planted", planted, 15),
+pub const PIECES: [Family; 9] = [
+    family("walks", walks, 15),
+    family("small", small, 10),
+    family("planted", planted, 20),
     family("boundaries", boundaries, 10),
     with_nan(family("hostile", hostile, 15)),
     family("thresholds", thresholds, 10),
     with_nan(family("corners", corners, 5)),
     with_nan(family("middles", middles::changed, 10)),
     family("tenths", tenths::edges, 5),
-    with_nan(family("extremes", extremes, 15)),
 ];
 
 /// Lengths at and around those at which a rule begins, the quarter, 12's gate and a box's 64.
@@ -168,16 +166,6 @@ fn offsets(rng: &mut Rng, case: &mut Case) {
     for p in LEAST_P {
         let offset = (len + 1).saturating_sub(p as u32 - 1 + rng.below(3) as u32);
         case.offsets.push(offset.max(1));
-    }
-}
-
-/// Extremes of the newest twenty bars that move with each bar.
-fn extremes(rng: &mut Rng, case: &mut Case) {
-    if rng.one_in(4) {
-        extremes::zeros(rng, &mut case.bars);
-    } else {
-        any(rng, case);
-        extremes::change(rng, &mut case.bars);
     }
 }
 

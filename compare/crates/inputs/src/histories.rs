@@ -10,11 +10,11 @@ use jcc_types::Bar;
 /// The most bars of a random history.
 const MOST: usize = 300;
 
-/// Lengths at and around those at which something changes: the rules and the quarter, 12's gate, the
-/// newest twenty bars replaced, a look's greatest offset, the kept bars, and all kept bars replaced.
-pub const LENGTHS: [usize; 36] = [
-    0, 1, 2, 3, 5, 8, 11, 12, 16, 19, 20, 21, 22, 23, 24, 25, 26, 39, 40, 41, 42, 43, 44, 45, 62,
-    63, 64, 65, 66, 67, 86, 87, 107, 127, 128, 129,
+/// Lengths at and around those at which something changes: the rules and the quarter, 12's gate, a
+/// look's greatest offset, the kept bars, and all kept bars replaced.
+pub const LENGTHS: [usize; 32] = [
+    0, 1, 2, 3, 5, 8, 11, 12, 16, 20, 21, 22, 23, 24, 25, 26, 42, 43, 44, 45, 62, 63, 64, 65, 66,
+    67, 86, 87, 107, 127, 128, 129,
 ];
 
 fn length(rng: &mut Rng) -> usize {

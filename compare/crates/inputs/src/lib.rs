@@ -3,7 +3,6 @@
 
 pub mod boundaries;
 pub mod cuts;
-pub mod extremes;
 pub mod families;
 pub mod grids;
 pub mod histories;

@@ -7,9 +7,6 @@ use jcc_types::{MOST_OFFSET, RECOGNISERS};
 /// The recogniser whose gate reads the newest bars, wherever the judged one is.
 const THREE_CROW: u32 = 12;
 
-/// Those that read the quarter, at the newest bar from what a box holds of its newest twenty.
-const QUARTER: [u32; 5] = [0, 1, 7, 8, 15];
-
 /// How many recognisers and offsets are tried where all are: one more of each than is accepted.
 const ALL_RECOGNISERS: u32 = RECOGNISERS as u32 + 1;
 const ALL_OFFSETS: u32 = MOST_OFFSET + 2;
@@ -34,14 +31,6 @@ pub fn random(rng: &mut Rng, count: usize) -> Look {
         _ => rng.between(1, MOST_OFFSET as usize) as u32,
     };
     Look { recogniser, offset }
-}
-
-/// A look at the newest bar that needs the extremes.
-pub fn newest(rng: &mut Rng) -> Look {
-    Look {
-        recogniser: rng.pick(&QUARTER),
-        offset: 1,
-    }
 }
 
 /// Every recogniser at every offset, and the first refused ones.

@@ -95,32 +95,6 @@ pub fn market(rng: &mut Rng, count: usize) -> Vec<Bar> {
     (0..count).map(|_| walk.bar(rng)).collect()
 }
 
-/// How far the bars of a slope are apart.
-const SLOPE: f64 = 0.25;
-
-/// So many bars of which each has a lower high and a lower low than the one before: of any twenty in a
-/// row all are candidates for the highest high, and one for the lowest low.
-pub fn falling(rng: &mut Rng, count: usize) -> Vec<Bar> {
-    slope(rng, count, 300_000.0, -SLOPE)
-}
-
-/// The same upwards.
-pub fn rising(rng: &mut Rng, count: usize) -> Vec<Bar> {
-    slope(rng, count, 50_000.0, SLOPE)
-}
-
-/// Cents that a high or a low is off the slope are fewer than its step.
-fn slope(rng: &mut Rng, count: usize, from: f64, step: f64) -> Vec<Bar> {
-    let bar = |i| {
-        let price = from + step * i as f64;
-        let high = price + 1.0 + rng.whole(0, 20) / 100.0;
-        let low = price - 1.0 - rng.whole(0, 20) / 100.0;
-        let [open, close] = [(); 2].map(|()| price + rng.whole(-100, 100) / 100.0);
-        Bar::new(open, close, high, low)
-    };
-    (0..count).map(bar).collect()
-}
-
 /// Shadows are absent as often as they are long.
 fn shadow(rng: &mut Rng, reach: f64) -> f64 {
     match rng.below(4) {

@@ -33,24 +33,14 @@ unfolding look_verdict first_true
 returns-5 c =
     let v = c.before.before.before in
     let valid = sym v.is-valid.ensures ∙ not-false v.is-valid.result c.before.before.if3.false in
-    let right = not-true v.before.before.before.args.right c.if5.true in
-    simp (lt-leb _ _ v.before.before.if1.false, ne_eqb _ _ v.before.if2.false, valid, le-ltb _ _ c.before.if4.false, right)
+    simp (lt-leb _ _ v.before.before.if1.false, ne_eqb _ _ v.before.if2.false, valid, le-ltb _ _ c.before.if4.false, lt-ltb _ _ c.if5.true)
 
 returns-6 : tie.Need-returns-6
 unfolding look_verdict first_true
 returns-6 c =
-    let v = c.before.before.before.before in
-    let valid = sym v.is-valid.ensures ∙ not-false v.is-valid.result c.before.before.before.if3.false in
-    let right = not-false v.before.before.before.args.right c.before.if5.false in
-    simp (lt-leb _ _ v.before.before.if1.false, ne_eqb _ _ v.before.if2.false, valid, le-ltb _ _ c.before.before.if4.false, right, lt-ltb _ _ c.if6.true)
-
-returns-7 : tie.Need-returns-7
-unfolding look_verdict first_true
-returns-7 c =
-    let v = c.before.before.before.before in
-    let valid = sym v.is-valid.ensures ∙ not-false v.is-valid.result c.before.before.before.if3.false in
-    let right = not-false v.before.before.before.args.right c.before.if5.false in
-    simp (lt-leb _ _ v.before.before.if1.false, ne_eqb _ _ v.before.if2.false, valid, le-ltb _ _ c.before.before.if4.false, right, le-ltb _ _ c.if6.false)
+    let v = c.before.before.before in
+    let valid = sym v.is-valid.ensures ∙ not-false v.is-valid.result c.before.before.if3.false in
+    simp (lt-leb _ _ v.before.before.if1.false, ne_eqb _ _ v.before.if2.false, valid, le-ltb _ _ c.before.if4.false, le-ltb _ _ c.if5.false)
 
 pub look-verdict-spec : {M : Type 1} → statement M
-look-verdict-spec = tie.close (tie.spec returns returns-2 (λ c κs. tt) returns-3 returns-4 returns-5 returns-6 returns-7)
+look-verdict-spec = tie.close (tie.spec returns returns-2 (λ c κs. tt) returns-3 returns-4 returns-5 returns-6)

@@ -5,7 +5,7 @@ use lib.ListN.{length}
 use Rattle.measures.specs.Bar.{bars_of, overlay}
 use Rattle.answers.specs.declared.refusals.Verdict.{Verdict, TheVariants.Accepted, TheVariants.Denied}
 use Rattle.recognisers.specs.Refusal.{leaves, feed_verdict}
-use Rattle.bar_box.specs.Box.{fresh_box, is_right, taken_in, fed_of, sheet_of}
+use Rattle.bar_box.specs.Box.{fresh_box, taken_in, fed_of, sheet_of}
 use Rattle.bar_box.proofs.PartLaws.{rows_from}
 use Rattle.tallies.specs.Tally.{fresh_tally}
 use Rattle.tallies.specs.Feed.{tallied_of, tallied_sheet}
@@ -27,9 +27,9 @@ returns c =
     let t = args.t in
     let b = fresh_box t in
     let ps = args.prices.now in
-    let same = plain-verdict t 0 (is_right b) fresh_tally (length ps) (length args.sheet.now) fresh-adds in (
-      rw (made.feed-parts.ensures.0, box.fresh2.ensures, box.before.fresh.ensures, same) (rw (twice (feed_verdict t 0 (is_right b) (length ps) (length args.sheet.now)) b (taken_in b (bars_of ps)))),
-      made.feed-parts.ensures.1 ∙ rw (box.fresh2.ensures, box.before.fresh.ensures, same) (twice (feed_verdict t 0 (is_right b) (length ps) (length args.sheet.now)) args.sheet.now (overlay args.sheet.now 0 (rows_from b (bars_of ps)))),
+    let same = plain-verdict t 0 fresh_tally (length ps) (length args.sheet.now) fresh-adds in (
+      rw (made.feed-parts.ensures.0, box.fresh2.ensures, box.before.fresh.ensures, same) (rw (twice (feed_verdict t 0 (length ps) (length args.sheet.now)) b (taken_in b (bars_of ps)))),
+      made.feed-parts.ensures.1 ∙ rw (box.fresh2.ensures, box.before.fresh.ensures, same) (twice (feed_verdict t 0 (length ps) (length args.sheet.now)) args.sheet.now (overlay args.sheet.now 0 (rows_from b (bars_of ps)))),
     )
 
 pub fed-spec : {M : Type 1} → statement M

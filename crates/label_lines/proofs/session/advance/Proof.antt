@@ -30,10 +30,7 @@ begin-requires : tie.Need-begin-requires
 begin-requires c κs = search rules
 
 add-t20 : tie.Need-overflow-add-t20
-add-t20 c =
-    let taken = c.before.before.before.before.before.before in
-    let known = taken.before.before.before.before.before.before.before in
-    search (rules, taken.if1.true, known.shared-slice-known.given)
+add-t20 c = search rules
 
 same_length : tie.Need-same-length
 same_length c = search rules

@@ -3,7 +3,7 @@ use mathlib.Core.Path.{◌≡◌, refl, sym, ◌∙◌}
 use mathlib.Core.Bool.{Bool, true, false, cond}
 use borrow.Author.Rules.{rules}
 use Rattle.tallies.specs.Feed.{lent, tallied_sheet}
-use Rattle.tallies.proofs.FeedLaws.{with-test, tallied-refused}
+use Rattle.tallies.proofs.FeedLaws.{tallied-refused}
 use Rattle.part_feeds.proofs.parts.feed_parts.Statement.{statement}
 use Rattle.part_feeds.proofs.parts.feed_parts.Tie as tie
 
@@ -23,16 +23,15 @@ enum_told c = search rules
 take-parts-requires : tie.Need-take-parts-requires
 take-parts-requires c κs =
     let told = c.before in
-    let call = told.before.before in
-    let args = call.before.before.before.before.before.before.args in
-    (sym (with-test args.b args.tally (lent args.prices.now args.sheet.now) _ _ call.before.is_right.ensures call.tally-verdict.ensures.0) ∙ told.enum_told.given.1, call.tally-verdict.ensures.1)
+    let call = told.before.before.tally-verdict.ensures in
+    (sym call.0 ∙ told.enum_told.given.1, call.1)
 
 returns : tie.Need-returns
 unfolding tallied_sheet
 returns c =
     let call = c.before.before.before in
-    let args = call.before.before.before.before.before.before.args in
-    let denied = sym (with-test args.b args.tally (lent args.prices.now args.sheet.now) _ _ call.before.is_right.ensures call.tally-verdict.ensures.0) ∙ c.before.why.given.1 in
+    let args = call.before.before.before.before.before.args in
+    let denied = sym call.tally-verdict.ensures.0 ∙ c.before.why.given.1 in
     (rw (tallied-refused args.b args.tally (lent args.prices.now args.sheet.now) _ denied, same args.counts args.tally), simp denied)
 
 same_length : tie.Need-same-length
@@ -45,7 +44,6 @@ pub feed-parts-spec : {M : Type 1} → statement M
 feed-parts-spec =
     tie.close
     (tie.spec
-    (λ c κs. tt)
     tally-verdict-requires
     enum-known-why
     enum_told

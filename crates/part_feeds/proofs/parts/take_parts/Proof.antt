@@ -53,7 +53,7 @@ start_of c = c.before.before.before.before
 room : (c : tie.After-count invariant-loop decreases-loop) → let args = (start_of c).args in row_bytes * c.count.result ≤ length args.sheet.now
 room c =
     let args = (start_of c).args in
-    omega (arith, c.count.ensures, length-bars args.prices.now, (fits _ _ _ _ _ (accepted-plain args.b args.tally (lent args.prices.now args.sheet.now) (start_of c).requires.0)).room)
+    omega (arith, c.count.ensures, length-bars args.prices.now, (fits _ _ _ _ (accepted-plain args.b args.tally (lent args.prices.now args.sheet.now) (start_of c).requires.0)).room)
 
 -- past the last size all are fed
 all-fed : (c : tie.After-part-size invariant-loop decreases-loop) → let at-loop = c.before.before in
@@ -72,7 +72,7 @@ unfolding rows_of
 loop-holds c =
     let start = start_of c in
     let args = start.args in
-    let all : length args.b.bars ≡ places = simp length-map at start.good.0.1.1.1.1.1.0.1.0.1 in
+    let all : length args.b.bars ≡ places = simp length-map at start.good.0.1.1.1.1.0.1.0.1 in
     (search rules, search rules, λ h. omega arith, refl, sym (taken_none args.b all), sym (rw (none-counted args.tally) (same args.counts args.tally)), sym (overlay-none args.sheet.now 0))
 
 sub-part-size : tie.Need-overflow-sub-part-size invariant-loop decreases-loop
@@ -141,7 +141,7 @@ loop-again c =
     let n = part.part-size.result in
     let passed = at-loop.loop.done in
     let enough : passed + n ≤ length (bars_of args.prices.now) = omega (arith, part.part-size.ensures.1, counted-all.count.ensures, inv.0) in
-    let all : length args.b.bars ≡ places = simp length-map at start.good.0.1.1.1.1.1.0.1.0.1 in
+    let all : length args.b.bars ≡ places = simp length-map at start.good.0.1.1.1.1.0.1.0.1 in
     let e = start.pre.0 in
     let shaped = start.pre.1 in
     let bars = bars_of args.prices.now in

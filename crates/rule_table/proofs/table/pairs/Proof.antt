@@ -8,8 +8,7 @@ use lib.ListN.{length, take, drop, length-set, drop_of_length-le}
 use lib.Seq.{take_all}
 use Rattle.rule_types.specs.Label.{pair_a}
 use Rattle.rule_types.specs.Number.{recognisers}
-use Rattle.rule_types.proofs.ListLaws.{place-next}
-use Rattle.rule_table.proofs.TableLaws.{short_ors, length-short_ors, short_ors-first, length-rules, short_ors-rules, short-start}
+use Rattle.rule_table.proofs.TableLaws.{short_ors, length-short_ors, short_ors-first, length-rules, short_ors-rules, short-start, place-next}
 use Rattle.rule_table.proofs.table.pairs.Statement.{statement}
 use Rattle.rule_table.proofs.table.pairs.Tie as tie
 

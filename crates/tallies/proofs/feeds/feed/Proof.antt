@@ -9,13 +9,13 @@ use Rattle.measures.specs.Bar.{bars_of}
 use Rattle.measures.proofs.RunLaws.{length-bars}
 use Rattle.box_record.specs.declared.boxes.Outcome.{Outcome}
 use Rattle.bar_box.specs.Sheet.{rows_of}
-use Rattle.bar_box.specs.Box.{kept, is_right}
+use Rattle.bar_box.specs.Box.{kept}
 use Rattle.bar_box.proofs.FeedSteps.{fits}
 use Rattle.bar_box.proofs.SheetLaws.{length-rows}
 use Rattle.tallies.specs.Tally.{counted}
 use Rattle.tallies.specs.Feed.{lent, tallied_of, tallied_sheet}
 use Rattle.tallies.proofs.RowLaws.{rows-known}
-use Rattle.tallies.proofs.FeedLaws.{with-test, accepted-adds, accepted-plain, fed-after, rows_written, tallied-accepted}
+use Rattle.tallies.proofs.FeedLaws.{accepted-adds, accepted-plain, fed-after, rows_written, tallied-accepted}
 use borrow.Author.Rules.{rules}
 use Rattle.tallies.proofs.feeds.feed.Statement.{statement}
 use Rattle.tallies.proofs.feeds.feed.Tie as tie
@@ -39,33 +39,33 @@ mul-bytes : tie.Need-overflow-mul-bytes
 mul-bytes c =
     let told = c.before.before.before.before.before.before in
     let call = told.before.before in
-    let args = call.before.before.before.before.before.args in
+    let args = call.before.before.before.before.args in
     let f = lent args.prices.now args.sheet.now in
-    let accepted = sym (with-test args.b args.tally f _ _ call.before.is_right.ensures call.tally-verdict.ensures.0) ∙ told.enum_told.given.1 in
+    let accepted = sym call.tally-verdict.ensures.0 ∙ told.enum_told.given.1 in
     let plain = accepted-plain args.b args.tally f accepted in
-    let met = fits _ _ _ _ _ plain in
+    let met = fits _ _ _ _ plain in
     omega (arith, c.count.ensures, length-bars args.prices.now, met.few)
 
 slice-reshare-prefix-count : tie.Need-slice-reshare-prefix-count
 slice-reshare-prefix-count c =
     let told = c.before.before.before.before.before.before in
     let call = told.before.before in
-    let args = call.before.before.before.before.before.args in
+    let args = call.before.before.before.before.args in
     let f = lent args.prices.now args.sheet.now in
-    let accepted = sym (with-test args.b args.tally f _ _ call.before.is_right.ensures call.tally-verdict.ensures.0) ∙ told.enum_told.given.1 in
+    let accepted = sym call.tally-verdict.ensures.0 ∙ told.enum_told.given.1 in
     let plain = accepted-plain args.b args.tally f accepted in
-    let met = fits _ _ _ _ _ plain in
+    let met = fits _ _ _ _ plain in
     omega (arith, c.count.ensures, length-bars args.prices.now, met.room, c.before.before.before.before.feed.auto.1.1.0)
 
 slice-aggregate-count : tie.Need-slice-aggregate-count
 slice-aggregate-count c =
     let told = c.before.before.before.before.before.before.before in
     let call = told.before.before in
-    let args = call.before.before.before.before.before.args in
+    let args = call.before.before.before.before.args in
     let f = lent args.prices.now args.sheet.now in
-    let accepted = sym (with-test args.b args.tally f _ _ call.before.is_right.ensures call.tally-verdict.ensures.0) ∙ told.enum_told.given.1 in
+    let accepted = sym call.tally-verdict.ensures.0 ∙ told.enum_told.given.1 in
     let plain = accepted-plain args.b args.tally f accepted in
-    let met = fits _ _ _ _ _ plain in
+    let met = fits _ _ _ _ plain in
     let fed = c.before.before.before.before.before.feed in
     let within : row_bytes * c.before.count.result ≤ length fed.new.1.1.0 = omega (arith, c.before.count.ensures, length-bars args.prices.now, met.room, fed.auto.1.1.0) in
     sym (length-take-le (row_bytes * c.before.count.result) fed.new.1.1.0 within)
@@ -74,11 +74,11 @@ count-requires-2 : tie.Need-count-requires-2
 count-requires-2 c κs =
     let told = c.before.before.before.before.before.before.before in
     let call = told.before.before in
-    let args = call.before.before.before.before.before.args in
+    let args = call.before.before.before.before.args in
     let f = lent args.prices.now args.sheet.now in
-    let accepted = sym (with-test args.b args.tally f _ _ call.before.is_right.ensures call.tally-verdict.ensures.0) ∙ told.enum_told.given.1 in
+    let accepted = sym call.tally-verdict.ensures.0 ∙ told.enum_told.given.1 in
     let plain = accepted-plain args.b args.tally f accepted in
-    let met = fits _ _ _ _ _ plain in
+    let met = fits _ _ _ _ plain in
     let fed = c.before.before.before.before.before.feed in
     let bars = bars_of args.prices.now in
     let rows = rows_of args.b.thresholds args.b.count (kept args.b) bars in
@@ -86,7 +86,7 @@ count-requires-2 c κs =
     let size = length-rows args.b.thresholds args.b.count (kept args.b) bars in (
       rw written (rows-known args.b.thresholds args.b.count (kept args.b) bars),
       call.tally-verdict.ensures.1,
-      accepted-adds args.b.thresholds args.b.count (is_right args.b) args.tally (length args.prices.now) (length args.sheet.now) accepted,
+      accepted-adds args.b.thresholds args.b.count args.tally (length args.prices.now) (length args.sheet.now) accepted,
       rw written (omega (arith, size, length-bars args.prices.now, met.few)),
     )
 
@@ -94,9 +94,7 @@ returns : tie.Need-returns
 unfolding tallied_of tallied_sheet
 returns c =
     let call = c.before.before.before in
-    let args = call.before.before.before.before.before.args in
-    let f = lent args.prices.now args.sheet.now in
-    let denied = sym (with-test args.b args.tally f _ _ call.before.is_right.ensures call.tally-verdict.ensures.0) ∙ c.before.why.given.1 in
+    let denied = sym call.tally-verdict.ensures.0 ∙ c.before.why.given.1 in
     (simp denied, simp denied, call.tally-verdict.ensures.1, simp denied)
 
 same_length : tie.Need-same-length
@@ -107,11 +105,11 @@ unfolding tallied_sheet
 returns-2 c =
     let told = c.before.before.before.before.before.before.before.before in
     let call = told.before.before in
-    let args = call.before.before.before.before.before.args in
+    let args = call.before.before.before.before.args in
     let f = lent args.prices.now args.sheet.now in
-    let accepted = sym (with-test args.b args.tally f _ _ call.before.is_right.ensures call.tally-verdict.ensures.0) ∙ told.enum_told.given.1 in
+    let accepted = sym call.tally-verdict.ensures.0 ∙ told.enum_told.given.1 in
     let plain = accepted-plain args.b args.tally f accepted in
-    let met = fits _ _ _ _ _ plain in
+    let met = fits _ _ _ _ plain in
     let fed = c.before.before.before.before.before.before.feed in
     let bars = bars_of args.prices.now in
     let rows = rows_of args.b.thresholds args.b.count (kept args.b) bars in
@@ -124,7 +122,6 @@ pub feed-spec : {M : Type 1} → statement M
 feed-spec =
     tie.close
     (tie.spec
-    (λ c κs. tt)
     tally-verdict-requires
     enum-known-why
     enum_told

@@ -28,7 +28,7 @@ returns-2 c =
     let start = buffer.before.before.before in
     let args = start.args in
     let ps = args.prices.now in
-    let all : length args.held.bars ≡ 64 = simp length-map at start.well-formed.0.1.1.1.1.1.0.1.0.1 in
+    let all : length args.held.bars ≡ 64 = simp length-map at start.well-formed.0.1.1.1.1.0.1.0.1 in
     let size : length buffer.large-buffer.result ≡ 65536 = sym buffer.large-buffer.ensures in
     let some : 1 ≤ length (bars_of ps) = omega (arith, start.requires.0, buffer.before.if1.false) in
     fed.ensures.0 ∙ batch-fed args.held all args.tally fed.ensures.2 ps buffer.large-buffer.result start.requires.0 some start.requires.2 (omega (arith, start.requires.0, start.requires.1, size))

@@ -22,7 +22,7 @@ stamps-verdict-requires : tie.Need-stamps-verdict-requires
 stamps-verdict-requires c κs =
     let call = c.before.before in
     let args = call.before.before.before.args in
-    let valid = checked-layer args.t _ args.n args.right args.prices args.stamps.now args.sheet _ (sym call.checked.ensures) c.enum_told.given.1 in
+    let valid = checked-layer args.t _ args.n args.prices args.stamps.now args.sheet _ (sym call.checked.ensures) c.enum_told.given.1 in
     layer-end _ _ _ (sym call.before.layer-valid.ensures ∙ valid)
 
 returns : tie.Need-returns
@@ -30,14 +30,14 @@ returns c =
     let call = c.before.before.before in
     let args = call.before.before.before.args in
     let v = sym call.checked.ensures ∙ c.before.why.given.1 in
-    sym (rw (← call.before.layer-valid.ensures) (run-checked args.t _ args.n args.right args.prices args.stamps.now args.sheet _ v args.h args.c.last))
+    sym (rw (← call.before.layer-valid.ensures) (run-checked args.t _ args.n args.prices args.stamps.now args.sheet _ v args.h args.c.last))
 
 returns-2 : tie.Need-returns-2
 returns-2 c =
     let call = c.before.before.before in
     let args = call.before.before.before.args in
     let v = sym call.checked.ensures ∙ c.before.enum_told.given.1 in
-    c.stamps-verdict.ensures ∙ sym (rw (← call.before.layer-valid.ensures) (run-checked args.t _ args.n args.right args.prices args.stamps.now args.sheet _ v args.h args.c.last))
+    c.stamps-verdict.ensures ∙ sym (rw (← call.before.layer-valid.ensures) (run-checked args.t _ args.n args.prices args.stamps.now args.sheet _ v args.h args.c.last))
 
 pub run-verdict-spec : {M : Type 1} → statement M
 run-verdict-spec = tie.close (tie.spec layer-valid-requires checked-requires enum-known-why enum_told stamps-verdict-requires returns returns-2)

@@ -8,9 +8,8 @@ use Rattle.measures.specs.Bar.{bars_of, overlay}
 use Rattle.measures.proofs.Overlay.{overlay-none}
 use Rattle.recognisers.specs.Number.{places}
 use Rattle.bar_box.specs.Sheet.{rows_of}
-use Rattle.bar_box.specs.Box.{kept, is_right, taken_in}
-use Rattle.bar_box.proofs.BoxLaws.{taken_none, taken-append, right-taken}
-use Rattle.bar_box.proofs.FeedSteps.{fits}
+use Rattle.bar_box.specs.Box.{kept, taken_in}
+use Rattle.bar_box.proofs.BoxLaws.{taken_none, taken-append}
 use Rattle.bar_box.proofs.PartLaws.{rows_both}
 use Rattle.terms.proofs.PartLaws.{ended_to, carried_to, PartFits, part-fits, none-ended, none-carried, all-passed}
 use Rattle.terms.proofs.calls.take_bars.Statement.{statement}
@@ -29,7 +28,7 @@ unfolding rows_of
 loop-holds c =
     let start = c.before.before.before in
     let args = start.args in
-    let all : length args.b.bars ≡ places = simp length-map at start.well-formed.0.1.1.1.1.1.0.1.0.1 in
+    let all : length args.b.bars ≡ places = simp length-map at start.well-formed.0.1.1.1.1.0.1.0.1 in
     let none = none-ended args.h args.m args.c args.prices.now args.stamps.now args.from in (
       search rules,
       start.requires.2,
@@ -44,14 +43,14 @@ loop-holds c =
 -- what is known of the part that was passed
 part : (c : tie.After-pass invariant-loop decreases-loop) → let at = c.before.before.before.loop in
     let args = c.before.before.before.before.before.before.before.args in
-    PartFits args.h args.m args.c args.prices.now args.stamps.now args.from args.b.thresholds args.b.count (is_right args.b) (length args.sheet.now) at.done c.pass.result c.pass.new.1.1.1.1.1.1.0
+    PartFits args.h args.m args.c args.prices.now args.stamps.now args.from args.b.thresholds args.b.count (length args.sheet.now) at.done c.pass.result c.pass.new.1.1.1.1.1.1.0
 part c =
     let inside = c.before.before in
     let at = inside.before.loop in
     let start = inside.before.before.before.before.before in
     let args = start.args in
     let inv = at.invariant in
-    part-fits args.h args.m args.c args.prices.now args.stamps.now args.from start.requires.0 start.requires.1 _ _ _ _ start.requires.3 at.done inv.0 inside.loop-test.true at.run (omega arith) at.carried inv.4 _ _ c.pass.ensures
+    part-fits args.h args.m args.c args.prices.now args.stamps.now args.from start.requires.0 start.requires.1 _ _ _ start.requires.3 at.done inv.0 inside.loop-test.true at.run (omega arith) at.carried inv.4 _ _ c.pass.ensures
 
 slice-aggregate-pass : tie.Need-slice-aggregate-pass invariant-loop decreases-loop
 slice-aggregate-pass c = search rules
@@ -65,17 +64,9 @@ slice-aggregate-feed-front c = search rules
 feed-front-requires : tie.Need-feed-front-requires invariant-loop decreases-loop
 feed-front-requires c κs =
     let passed = c.before.before.before in
-    let at = passed.before.before.before.loop in
-    let inv = at.invariant in
-    let start = passed.before.before.before.before.before.before.before in
-    let args = start.args in
-    let b = args.b in
-    let all : length b.bars ≡ places = simp length-map at start.well-formed.0.1.1.1.1.1.0.1.0.1 in
-    let right = (fits _ _ _ _ _ start.requires.3).right-box in
-    let old = ended_to args.h args.m args.c args.prices.now args.stamps.now args.from at.done in
-    let stays : is_right (taken_in b old) ≡ is_right b = right-taken b all right old ∙ sym right in
+    let inv = passed.before.before.before.loop.invariant in
     let fit = part passed in
-    (rw (inv.5, stays) fit.accepted, (fit.enough, omega (arith, fit.room)))
+    (rw inv.5 fit.accepted, (fit.enough, omega (arith, fit.room)))
 
 add-rows : tie.Need-overflow-add-rows invariant-loop decreases-loop
 add-rows c =
@@ -98,7 +89,7 @@ loop-again c =
     let fit = part passed in
     let old = ended_to args.h args.m args.c args.prices.now args.stamps.now args.from at.done in
     let new = bars_of (take (4 * passed.pass.result.count) passed.pass.new.1.1.1.1.1.1.0) in
-    let all : length b.bars ≡ places = simp length-map at start.well-formed.0.1.1.1.1.1.0.1.0.1 in (
+    let all : length b.bars ≡ places = simp length-map at start.well-formed.0.1.1.1.1.0.1.0.1 in (
       omega (arith, fit.some),
       fit.within,
       fed.feed-front.auto.1.1.1.0 ∙ inv.2,
