@@ -1,5 +1,7 @@
 // Why calls are refused, which calls are, and what they answer. All is proved, nothing is assumed, and no public function has a `requires`: each
 // contract is an equation with a definition of specs/, for every input.
+#![tactic(auto)]
+
 ghost use Rattle.std.specs.Prelude.{◌≡◌};
 ghost use Rattle.answers.specs.Answer.{answer_in, ordinal_in, pair_number, result_of};
 
@@ -11,14 +13,14 @@ pub use refusals::{Refusal, Verdict};
 use rule_types::label::{Pair, code};
 
 // What a call answers.
-#[derive(Drop)]
+#[derive(Clone, Copy)]
 pub enum Answer {
     Labels(Pair),
     Refused(Refusal),
 }
 
 // What a look answers: the pair with the judged bar's ordinal, which is 0 where there is no such bar, or the refusal alone.
-#[derive(Drop)]
+#[derive(Clone, Copy)]
 pub enum LookAnswer {
     Judged { pair: Pair, ordinal: u32 },
     Refused(Refusal),

@@ -3,7 +3,7 @@ ghost use Rattle.std.specs.Prelude.{◌≡◌};
 ghost use Rattle.answers.specs.Refusal.{refusal_number, leaves};
 
 // Why a call is refused, by number. Most calls try theirs in this order; a layer's 12 comes next after 3.
-#[derive(Drop)]
+#[derive(Clone, Copy)]
 pub enum Refusal {
     UnknownRecogniser,
     ZeroOffset,
@@ -20,7 +20,7 @@ pub enum Refusal {
 }
 
 // Whether a call is refused.
-#[derive(Drop)]
+#[derive(Clone, Copy)]
 pub enum Verdict {
     Accepted,
     Denied(Refusal),

@@ -1,6 +1,8 @@
 // The recognisers of three to six newest bars: 5, 11, 12 and 16. b1 is the judged bar, b2 the one before.
 // All is proved, nothing is assumed, and no public function has a `requires`: each contract is an equation with a definition of specs/,
 // for every input.
+#![tactic(auto)]
+
 ghost use Rattle.std.specs.Prelude.{◌≡◌, cond, ◌&&◌};
 ghost use Rattle.measures.specs.Bar.{bars_of};
 ghost use Rattle.rule_types.specs.Label.{pair_a};

@@ -8,14 +8,14 @@ use recognisers::counts::PLACES;
 use recognisers::{Refusal, Thresholds, Verdict};
 
 // What a place holds: a bar and its ordinal, from 1 in the order of the history.
-#[derive(Drop)]
+#[derive(Clone, Copy)]
 pub struct KeptBar {
     pub bar: Bar,
     pub ordinal: u32,
 }
 
 // The thresholds, the count N of bars fed, and the newest 64 of them, oldest first from the first place; empty places hold zeros.
-#[derive(Drop)]
+#[derive(Clone, Copy)]
 pub struct BarBox {
     pub thresholds: Thresholds,
     pub count: u32,
@@ -23,7 +23,7 @@ pub struct BarBox {
 }
 
 // The box after a call, and whether it is refused. The box stands first: behind the verdict a feed would copy it once more.
-#[derive(Drop)]
+#[derive(Clone, Copy)]
 pub struct Outcome {
     pub after: BarBox,
     pub verdict: Verdict,

@@ -1,6 +1,8 @@
 // The recognisers that try growing windows: 4 and 17.
 // All is proved, nothing is assumed, and no public function has a `requires`: each contract is an equation with a definition of specs/,
 // for every input.
+#![tactic(auto)]
+
 ghost use Rattle.std.specs.Prelude.{◌≡◌, ◌+◌, ◌-◌, ◌≤◌, ◌<◌, true, []};
 ghost use Rattle.measures.specs.Bar.{bars_of};
 ghost use Rattle.measures.specs.Window.{back_of};
@@ -14,7 +16,7 @@ use middles::{Middle, first_middle, grow};
 use rule_types::label::{Label, Pair, code, pair_a, pick};
 
 // What a window is tried for, where the source has a closure.
-#[derive(Drop)]
+#[derive(Clone, Copy)]
 enum Shape {
     ThreeMethods,
     Tower,
@@ -115,7 +117,7 @@ fn three_methods(s: &[f64]) -> Label
 // 17: ta_xing. What the ends and the middle's extremes answer is tested before the bodies are scanned, which costs the most.
 
 // The two greatest bodies of a window, and whether no body is NaN.
-#[derive(Drop)]
+#[derive(Clone, Copy)]
 struct Leaders {
     pub first: f64,
     pub second: f64,
@@ -260,7 +262,7 @@ fn is_beyond(last: Bar, m: Middle) -> bool
 }
 
 // The pairs of 4 and 17 over the same window.
-#[derive(Drop)]
+#[derive(Clone, Copy)]
 pub struct Growing {
     pub methods: Pair,
     pub tower: Pair,
@@ -277,7 +279,7 @@ fn no_match() -> Growing
 }
 
 // The sizes from which on the search tries no more, 0 for a recogniser that is not asked for.
-#[derive(Drop)]
+#[derive(Clone, Copy)]
 pub struct Ends {
     pub methods: usize,
     pub tower: usize,

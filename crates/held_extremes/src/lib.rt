@@ -1,6 +1,8 @@
 // What a box holds of its newest 20 bars: the highest high, the lowest low, and the bars that are candidates for each, by their ordinals.
 // All is proved, nothing is assumed, and no public function has a `requires`: each contract is an equation with a definition of specs/,
 // for every input.
+#![tactic(auto)]
+
 ghost use Rattle.std.specs.Prelude.{◌≡◌, cond, true, false, ◌∷◌, ◌++◌, ◌+◌, ◌-◌, ◌*◌, ◌≤◌, ◌<◌, eqb, length, take, drop, set, replicate};
 ghost use Rattle.std.specs.Float.{inf};
 ghost use Rattle.std.specs.Float.Ieee.{is_nan};
@@ -15,7 +17,7 @@ use measures::{Bar, least, pick, price};
 use rule_types::counts::QUARTER_BARS;
 
 // Candidates stand in arrival order from the first place, zeros after them.
-#[derive(Drop)]
+#[derive(Clone, Copy)]
 pub struct HeldExtremes {
     pub highest: f64,
     pub lowest: f64,
@@ -24,14 +26,14 @@ pub struct HeldExtremes {
 }
 
 // Where the candidates begin that stand before twenty zeros.
-#[derive(Drop)]
+#[derive(Clone, Copy)]
 struct Ends {
     high: usize,
     low: usize,
 }
 
 // What is held as it stands in a longer list: the values, and where the places begin.
-#[derive(Drop)]
+#[derive(Clone, Copy)]
 struct Standing {
     highest: f64,
     lowest: f64,

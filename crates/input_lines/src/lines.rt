@@ -31,7 +31,7 @@ pub fn piece_end(separator: u8, s: &[u8]) -> usize
 }
 
 // The bytes of a line that has begun, of which the first len count.
-#[derive(Drop)]
+#[derive(Clone, Copy)]
 pub struct Partial {
     pub bytes: [u8; KEPT_BYTES],
     pub len: usize,

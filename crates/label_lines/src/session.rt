@@ -18,7 +18,7 @@ use text::lines::LINE_FEED;
 use text::{Line, Partial, lines, read_partial};
 
 // The line that has begun, the box, and whether a line was refused.
-#[derive(Drop)]
+#[derive(Clone, Copy)]
 pub struct Session {
     pub line: Partial,
     pub held: BarBox,
@@ -26,7 +26,7 @@ pub struct Session {
 }
 
 // What a line leaves, and the place behind what it printed.
-#[derive(Drop)]
+#[derive(Clone, Copy)]
 struct Stepped {
     held: BarBox,
     stops: bool,
@@ -34,7 +34,7 @@ struct Stepped {
 }
 
 // The session after the first used bytes, which printed the first written bytes of the buffer.
-#[derive(Drop)]
+#[derive(Clone, Copy)]
 pub struct Absorbed {
     pub session: Session,
     pub used: usize,

@@ -12,7 +12,7 @@ pub const MOST_BYTES: usize = 15;
 pub const NO_LABEL: u8 = LABELS as u8;
 
 // Bytes by value: the first len of them count, the others are zeros.
-#[derive(Drop)]
+#[derive(Clone, Copy)]
 pub struct Text {
     pub bytes: [u8; MOST_BYTES],
     pub len: u8,

@@ -1,10 +1,12 @@
 // The labels program: reads lines of prices from standard input and prints the labels of each bar. What it prints is fixed by
 // label_lines; here is what moves bytes in and out.
+#![tactic(auto)]
+
 use label_lines::{Session, session};
 use libc::{STDIN_FILENO, STDOUT_FILENO};
 
 // The session after some bytes of input, and whether to go on: no line was refused, and all that was printed could be written.
-#[derive(Drop)]
+#[derive(Clone, Copy)]
 struct Pumped {
     session: Session,
     goes_on: bool,

@@ -10,7 +10,7 @@ use prices::price;
 use windows::count;
 
 // A price of a bar.
-#[derive(Drop)]
+#[derive(Clone, Copy)]
 pub enum Column {
     Open,
     Close,
@@ -19,7 +19,7 @@ pub enum Column {
 }
 
 // A fold's step, by case, where Rust has a closure.
-#[derive(Drop)]
+#[derive(Clone, Copy)]
 pub enum Fold {
     Highest,
     Lowest,
@@ -109,7 +109,7 @@ pub fn pair_variance(x: f64, y: f64) -> f64
 }
 
 // The highest high and the lowest low of a run of bars.
-#[derive(Drop)]
+#[derive(Clone, Copy)]
 pub struct Extremes {
     pub highest: f64,
     pub lowest: f64,

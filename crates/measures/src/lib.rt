@@ -1,6 +1,8 @@
 // Measures of one bar and of a window of bars. A bar is four f64 prices; a run of bars is lent as prices, four to a bar: open,
 // close, high, low. All is proved, nothing is assumed, and no public function has a `requires`: each contract is an equation
 // with a definition of specs/, for every input, NaN, infinities and signs of zero included.
+#![tactic(auto)]
+
 pub mod folds;
 pub mod runs;
 

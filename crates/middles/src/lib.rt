@@ -1,5 +1,7 @@
 // The middle of a window, the bars between its first and its last: their extremes run along as the window grows. All is proved, nothing is
 // assumed, and no public function has a `requires`: each contract is an equation with a definition of specs/, for every input.
+#![tactic(auto)]
+
 ghost use Rattle.std.specs.Prelude.{◌≡◌, [], ◌∷◌};
 ghost use Rattle.measures.specs.Bar.{bars_of};
 ghost use Rattle.middles.specs.MiddleSteps.{middle_of, entered, grown_by, middle_at};
@@ -7,7 +9,7 @@ ghost use Rattle.middles.specs.MiddleSteps.{middle_of, entered, grown_by, middle
 use measures::Bar;
 
 // The highest high and the lowest low, which pass NaN over, and whether no high, no low is NaN.
-#[derive(Drop)]
+#[derive(Clone, Copy)]
 pub struct Middle {
     pub highest: f64,
     pub lowest: f64,

@@ -22,7 +22,7 @@ const LONGEST_REFUSAL: usize = 71;
 pub const ROOM: usize = RECOGNISERS * LONGEST_ROW;
 
 // Whether a line was refused: by a refusal, or by 9 with the field's place.
-#[derive(Drop)]
+#[derive(Clone, Copy)]
 pub enum Stop {
     Going,
     By(Refusal),

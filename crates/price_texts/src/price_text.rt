@@ -7,7 +7,7 @@ ghost use Rattle.price_texts.specs.PriceText.{minus, is_digit, digits_in, decima
 use prices::price;
 
 // What text says of a price.
-#[derive(Drop)]
+#[derive(Clone, Copy)]
 pub enum Price {
     Value(f64),
     Bad,

@@ -6,7 +6,7 @@ use crate::price;
 
 // A host program lends bars in this layout.
 #[repr(C)]
-#[derive(Drop)]
+#[derive(Clone, Copy)]
 pub struct Bar {
     pub open: f64,
     pub close: f64,

@@ -1,6 +1,8 @@
 // The recognisers that read the quarter: 0, 1, 7, 8 and 15. b1 is the judged bar, b2 the one before.
 // All is proved, nothing is assumed, and no public function has a `requires`: each contract is an equation with a definition of specs/,
 // for every input.
+#![tactic(auto)]
+
 ghost use Rattle.std.specs.Prelude.{◌≡◌};
 ghost use Rattle.measures.specs.Bar.{bars_of};
 ghost use Rattle.quarter_rules.specs.QuarterRule.{quarter_in, quarter_of, quarter_extremes, cut_of, umbrella_of, san_xing_xian, engulfs_up, engulfs_down, ten_mo, parts_down, parts_up, fen_shou_xian, candle_of, zhu_huo_xian, counters_of, counters_up, counters_down, fan_ji_xian};
@@ -10,7 +12,7 @@ use rule_types::counts::QUARTER_BARS;
 use rule_types::label::{Label, Pair, pick};
 
 // The side of the quarter that the judged bar reaches into; the low side is tried first.
-#[derive(Drop)]
+#[derive(Clone, Copy)]
 pub struct Quarter {
     pub low: bool,
     pub high: bool,

@@ -1,6 +1,8 @@
 // Eighteen recognisers of candlestick patterns: the plain call over lent prices, and the export for a host program. Thresholds, the table
 // with the choice by number, labels, the rules' numbers, refusals and answers are passed on from the crates below. All is proved, nothing is
 // assumed, and no public function has a `requires`: each contract is an equation with a definition of specs/, for every input.
+#![tactic(auto)]
+
 pub mod call;
 pub mod export;
 

@@ -2,6 +2,8 @@
 // public function has a `requires`: each contract is an equation with the definition of recognisers' plain call, for every input.
 // The borrow checker doesn't cover a slice of structs, so that what takes one is proved by a walk by hand: it is kept thin, and the
 // work is done on plain values.
+#![tactic(auto)]
+
 ghost use Rattle.std.specs.Prelude.{◌≡◌, true, ◌+◌, ◌-◌, ◌≤◌, length, take, drop};
 ghost use Prim.Native.Nat as Nat;
 ghost use Rattle.measures.specs.Window.{up_to, window_of};
@@ -19,14 +21,14 @@ use recognisers::verdicts::plain_verdict;
 use recognisers::{Answer, Pair, Thresholds, Verdict, answer_number, counts, export, table};
 
 // The prices of the bars that a rule can see, as many as there are.
-#[derive(Drop)]
+#[derive(Clone, Copy)]
 struct Window {
     prices: [f64; counts::REACH_PRICES],
     count: usize,
 }
 
 // A run of bars: the place of its first, and how many there are.
-#[derive(Drop)]
+#[derive(Clone, Copy)]
 struct Span {
     from: usize,
     count: usize,

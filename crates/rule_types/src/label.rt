@@ -3,7 +3,7 @@ ghost use Rattle.std.specs.Prelude.{◌≡◌, cond};
 ghost use Rattle.rule_types.specs.Label.{code_of, pair_a, pair_b};
 
 // The 38 labels, in the order of their codes, each with the source's text.
-#[derive(Drop)]
+#[derive(Clone, Copy)]
 pub enum Label {
     // 其他
     Other,
@@ -84,7 +84,7 @@ pub enum Label {
 }
 
 // What a recogniser answers.
-#[derive(Drop)]
+#[derive(Clone, Copy)]
 pub struct Pair {
     pub v1: Label,
     pub v2: Label,

@@ -2,6 +2,8 @@
 // share bars: the extremes of the older bars of all windows are made from the newest back, those of the newer ones grow bar by bar, and one
 // comparison joins the two, so that a bar takes three comparisons a column, not twenty. All is proved, nothing is assumed, and no public
 // function has a `requires`: each contract is an equation with a definition of specs/, for every input.
+#![tactic(auto)]
+
 ghost use Rattle.std.specs.Prelude.{◌≡◌, [], ◌≤◌, length};
 ghost use Rattle.measures.specs.Bar.{bars_of};
 ghost use Rattle.measures.specs.Fold.{extremes_of};
@@ -13,7 +15,7 @@ use measures::{Bar, Extremes, bar_or_none, count, least, pick, price};
 use rule_types::counts::QUARTER_BARS;
 
 // The highest high and the lowest low of each of twenty windows.
-#[derive(Drop)]
+#[derive(Clone, Copy)]
 pub struct WindowExtremes {
     pub highs: [f64; QUARTER_BARS],
     pub lows: [f64; QUARTER_BARS],

@@ -1,6 +1,8 @@
 // The recognisers of stars, which are bars with a small body or none: 6, 13 and 14. b1 is the judged bar, b2 the one before.
 // All is proved, nothing is assumed, and no public function has a `requires`: each contract is an equation with a definition of specs/,
 // for every input.
+#![tactic(auto)]
+
 ghost use Rattle.std.specs.Prelude.{◌≡◌, cond, ◌≤◌};
 ghost use Rattle.measures.specs.Bar.{doji_of};
 ghost use Rattle.star_rules.specs.StarRule.{star_bodies, morning_of, evening_of, xing_xian, doji_kind, northern_of, szx as szxOf, san_szx};

@@ -12,7 +12,7 @@ use recognisers::counts::{RECOGNISERS, ROW_BYTES};
 use recognisers::{Thresholds, Verdict};
 
 // Whether a feed is refused, and the box and the tally after it.
-#[derive(Drop)]
+#[derive(Clone, Copy)]
 pub struct Tallied {
     pub verdict: Verdict,
     pub after: BarBox,

@@ -6,7 +6,7 @@ ghost use Rattle.tallies.specs.Tally.{fresh_tally, Shaped, total_of, adds_up};
 use recognisers::counts::{LABELS, RECOGNISERS};
 
 // A recogniser's counts: how many bars got each v1 label.
-#[derive(Drop)]
+#[derive(Clone, Copy)]
 pub struct TallyRow {
     pub counts: [u32; LABELS],
 }

@@ -5,12 +5,14 @@
 // hundredths, for i from 0: the close is c(i) = 10000 + (7919 × i × i + 104729 × i) mod 401; the open c(i - 1) + i mod 7 - 3, where c(-1) is
 // 10000; the high the higher of the two + i × i mod 61; the low the lower of them - (37 × i) mod 53. compare/'s model made stdout, with the
 // port's labels and with the repository's, and the rows of the labels program add up to it.
+#![tactic(auto)]
+
 use libc::{STDIN_FILENO, STDOUT_FILENO};
 use output_lines::output::goes_on;
 use tally_lines::{Session, session};
 
 // The session after a read, and whether there is more to read.
-#[derive(Drop)]
+#[derive(Clone, Copy)]
 struct Turn {
     session: Session,
     goes_on: bool,

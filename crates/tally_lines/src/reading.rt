@@ -14,7 +14,7 @@ use text::lines::LINE_FEED;
 use text::{Line, Partial, lines, read_partial};
 
 // The line that has begun behind the bytes used, the bars read, and whether a line was refused.
-#[derive(Drop)]
+#[derive(Clone, Copy)]
 pub(crate) struct Gathered {
     pub line: Partial,
     pub used: usize,

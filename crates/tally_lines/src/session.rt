@@ -22,7 +22,7 @@ use text::{Partial, lines};
 const ROOM: usize = RECOGNISERS * LABELS * LONGEST_COUNT;
 
 // The line that has begun, the box, the tally, and whether a line was refused.
-#[derive(Drop)]
+#[derive(Clone, Copy)]
 pub struct Session {
     pub line: Partial,
     pub held: BarBox,
@@ -31,7 +31,7 @@ pub struct Session {
 }
 
 // The session after the first used bytes.
-#[derive(Drop)]
+#[derive(Clone, Copy)]
 struct Taken {
     session: Session,
     used: usize,

@@ -8,28 +8,28 @@ use measures::{Bar, max, min};
 use trading_hours::{Hours, hours};
 
 // The stamp of the last bar taken in.
-#[derive(Drop)]
+#[derive(Clone, Copy)]
 pub enum LastStamp {
     Never,
     At(u32),
 }
 
 // The open term bar.
-#[derive(Drop)]
+#[derive(Clone, Copy)]
 pub enum OpenBar {
     Nothing,
     Begun(Bar),
 }
 
 // What is carried from one bar to the next.
-#[derive(Drop)]
+#[derive(Clone, Copy)]
 pub struct Carried {
     pub last: LastStamp,
     pub pending: OpenBar,
 }
 
 // The term bar that a bar ended, if any, and what is carried on.
-#[derive(Drop)]
+#[derive(Clone, Copy)]
 struct Step {
     pub ended: OpenBar,
     pub carried: Carried,
@@ -135,7 +135,7 @@ fn put_ended(ended: OpenBar, run: &mut [f64], place: usize) -> usize
 }
 
 // The bar at which passing stopped, how many term bars ended in those that were passed, and what is carried on.
-#[derive(Drop)]
+#[derive(Clone, Copy)]
 pub struct Passed {
     pub at: usize,
     pub count: usize,

@@ -2,6 +2,8 @@
 // box in it. All is proved, nothing is assumed, and no public function has a `requires`: each contract is an equation with a definition
 // of specs/, for everything that a caller can hand in. That each term bar is the bar of its term's bars is proved in
 // proofs/TermBarLaws.antt.
+#![tactic(auto)]
+
 pub mod events;
 pub mod verdicts;
 

@@ -37,7 +37,7 @@ fn feed_front(b: BarBox, run: &[f64], n: usize, sheet: &mut [u8], row: usize) ->
 }
 
 // What is carried on, the box, and how many rows were filled.
-#[derive(Drop)]
+#[derive(Clone, Copy)]
 struct Progress {
     pub inner: BarBox,
     pub carried: Carried,

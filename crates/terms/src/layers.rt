@@ -12,7 +12,7 @@ use term_events::{Carried, LastStamp, OpenBar};
 use trading_hours::{DayWindow, Hours, hours};
 
 // The box of the term bars, the last stamp and the open term bar, the hours, and the term length in minutes.
-#[derive(Drop)]
+#[derive(Clone, Copy)]
 pub struct Layer {
     pub inner: BarBox,
     pub carried: Carried,
@@ -21,7 +21,7 @@ pub struct Layer {
 }
 
 // The layer after a call, how many rows the call filled, and whether it is refused.
-#[derive(Drop)]
+#[derive(Clone, Copy)]
 pub struct Taken {
     pub after: Layer,
     pub rows: usize,

@@ -2,6 +2,8 @@
 // minutes. All is proved, nothing is assumed, and no public function has a `requires`: each contract is an equation with a definition of
 // specs/, for every layer that a caller can hand in, for the result, the layer and every byte of the sheet. What every list of calls
 // leaves is proved in proofs/TermCalls.antt.
+#![tactic(auto)]
+
 pub mod calls;
 pub mod layers;
 

@@ -18,7 +18,7 @@ pub const SHEET: usize = ROW_BYTES * (BARS + 1);
 
 // How many bars the first feed has and how many each later one, the last as many as are left; whether an empty feed goes before
 // each, and whether refused ones come after it.
-#[derive(Drop)]
+#[derive(Clone, Copy)]
 pub struct Cut {
     pub first: usize,
     pub later: usize,
@@ -27,7 +27,7 @@ pub struct Cut {
 }
 
 // The box after the feeds so far, how many of them were accepted and how many refused, and a digest of their verdicts in turn.
-#[derive(Drop)]
+#[derive(Clone, Copy)]
 struct Fed {
     pub after: BarBox,
     pub accepted: u64,
@@ -36,7 +36,7 @@ struct Fed {
 }
 
 // Digests of what a cut leaves: the sheet, the box, every look.
-#[derive(Drop)]
+#[derive(Clone, Copy)]
 pub struct Left {
     pub sheet: u64,
     pub places: u64,

@@ -23,6 +23,8 @@
 // Any other line is a comment. The histories were written by generators from the seed 20221118, and are kept as they came.
 //
 // Every function is proved safe and ending; what is written is seen in the file stdout, which the gate holds this program to.
+#![tactic(auto)]
+
 mod cuts;
 mod digest;
 mod labels;
@@ -46,20 +48,20 @@ const WORD: u64 = 0x1_0000_0000;
 // A wrong ordinal, which a caller has put into every place.
 const FILLED: u32 = 7;
 
-#[derive(Drop)]
+#[derive(Clone, Copy)]
 struct History {
     prices: [f64; PRICES],
     bars: usize,
 }
 
 // What every cut should leave, and whether each has done so.
-#[derive(Drop)]
+#[derive(Clone, Copy)]
 struct Seen {
     expected: Left,
     same: bool,
 }
 
-#[derive(Drop)]
+#[derive(Clone, Copy)]
 struct State {
     history: History,
     held: BarBox,

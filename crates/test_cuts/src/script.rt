@@ -31,7 +31,7 @@ const UNUSUAL: [u64; 12] = [
 ];
 
 // The first byte, 0 if there is none yet; the last four numbers, of which d is the last; and whether the text has begun.
-#[derive(Drop)]
+#[derive(Clone, Copy)]
 pub struct Line {
     pub letter: u8,
     pub a: u64,

@@ -73,7 +73,7 @@ fn write_bad(name: &[u8], th14_above: bool, th0_nan: bool) {
 }
 
 // How many bytes of an input are used and printed, and how many the input's end prints in their place.
-#[derive(Drop)]
+#[derive(Clone, Copy)]
 struct Taken {
     used: usize,
     printed: usize,

@@ -6,6 +6,8 @@
 //
 // Then the labels' texts, the limits of a session, tallies that a caller filled and refused inputs of the tally program, a line each. Every
 // function is proved safe and ending; what is written is seen in the file stdout, which the gate holds this program to.
+#![tactic(auto)]
+
 ghost use Rattle.std.specs.Prelude.{◌<◌, ◌≤◌, length};
 
 mod labels;

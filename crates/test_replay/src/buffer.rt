@@ -4,7 +4,7 @@ ghost use Rattle.test_replay.specs.Buffer.{capacity, content, Holds};
 
 pub const CAPACITY: usize = 4096;
 
-#[derive(Drop)]
+#[derive(Clone, Copy)]
 pub struct Buffer {
     pub bytes: [u8; CAPACITY],
     pub len: usize,

@@ -6,7 +6,7 @@ ghost use Rattle.test_replay.specs.Hex.{longest};
 use crate::hex::decode;
 use recognisers::export::BAR_BYTES;
 
-#[derive(Drop)]
+#[derive(Clone, Copy)]
 pub enum Command {
     New,
     Bar,

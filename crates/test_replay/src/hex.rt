@@ -5,7 +5,7 @@ ghost use Rattle.test_replay.specs.Hex.{value_of, payload_of};
 // The most bytes that a line has in hexadecimal.
 pub const LONGEST: usize = 60;
 
-#[derive(Drop)]
+#[derive(Clone, Copy)]
 pub struct Decoded {
     pub bytes: [u8; LONGEST],
     pub len: usize,

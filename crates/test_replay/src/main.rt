@@ -8,6 +8,8 @@
 //
 // Every function is proved safe and ending. What a line does to the history and to the thresholds is proved too
 // (specs/Session.antt); that the answers written are those of jcc_label can be read off `call`.
+#![tactic(auto)]
+
 mod buffer;
 mod command;
 mod hex;

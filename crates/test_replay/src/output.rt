@@ -6,7 +6,7 @@ ghost use Rattle.test_replay.specs.Output.{with_bytes, WithNumber};
 use crate::buffer::{Buffer, CAPACITY};
 use libc::STDOUT_FILENO;
 
-#[derive(Drop)]
+#[derive(Clone, Copy)]
 pub struct Output {
     pub held: Buffer,
     pub failed: bool,

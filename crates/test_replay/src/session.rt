@@ -16,7 +16,7 @@ use crate::threshold_bytes::read;
 use recognisers::Thresholds;
 use recognisers::export::BAR_BYTES;
 
-#[derive(Drop)]
+#[derive(Clone, Copy)]
 pub struct Session {
     // The line that has begun, and how many lines have ended.
     pub line: Buffer,

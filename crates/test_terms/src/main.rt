@@ -12,6 +12,8 @@
 // windows, with those of the unused places behind a bar.
 //
 // Every function is proved safe and ending; what is written is seen in the file stdout, which the gate holds this program to.
+#![tactic(auto)]
+
 mod print;
 mod script;
 mod steps;

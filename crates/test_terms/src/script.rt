@@ -2,7 +2,7 @@
 use measures::least;
 
 // The first byte, 0 if there is none yet; the numbers behind it; and the place of the one that is read.
-#[derive(Drop)]
+#[derive(Clone, Copy)]
 pub struct Line {
     pub letter: u8,
     pub numbers: [u64; 12],

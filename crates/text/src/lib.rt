@@ -1,6 +1,8 @@
 // What goes in and out as text: lines of prices; passes on the labels' texts, prices and the splitting of an input into lines. All is
 // proved, nothing is assumed, and no public function has a `requires`: each contract is an equation with a definition of specs/, for every
 // input.
+#![tactic(auto)]
+
 pub mod line_text;
 
 pub use input_lines::lines;

@@ -11,7 +11,7 @@ use recognisers::{Refusal, Verdict};
 
 // What a line says: a bar; that it is longer than 80 bytes or has another number of fields than four, which is refusal 8; or, with
 // refusal 9, the place, 1 to 4, of the leftmost field that is no price.
-#[derive(Drop)]
+#[derive(Clone, Copy)]
 pub enum Line {
     Prices(Bar),
     BadShape,

@@ -1,12 +1,14 @@
 // The thresholds of the recognisers: the standard set, and whether each is inside its limits. All is proved, nothing is assumed, and no public
 // function has a `requires`: each contract is an equation with a definition of specs/, for every input.
+#![tactic(auto)]
+
 ghost use Rattle.std.specs.Prelude.{◌≡◌};
 ghost use Rattle.thresholds.specs.Threshold.{thresholds_of, standard_set, float_within, whole_within, tenths_within, valid_of};
 
 use rule_types::counts::{MOST_TENTHS, MOST_WHOLE};
 
 // The digit at the end of a name is the recogniser's number. th13 and th14 count tenths.
-#[derive(Drop)]
+#[derive(Clone, Copy)]
 pub struct Thresholds {
     pub th0: f64,
     pub z2: u32,

@@ -6,14 +6,14 @@ ghost use Rattle.trading_hours.specs.TermRule.{end_of};
 use measures::least;
 
 // A window of the day: minute from inclusive, minute to exclusive.
-#[derive(Drop)]
+#[derive(Clone, Copy)]
 pub struct DayWindow {
     pub from: u32,
     pub to: u32,
 }
 
 // One to four windows, from the first place; unused places hold zeros.
-#[derive(Drop)]
+#[derive(Clone, Copy)]
 pub struct Hours {
     pub windows: [DayWindow; 4],
     pub count: u32,

@@ -1,6 +1,8 @@
 // The recognisers of the two newest bars: 2, 3, 9 and 10. b1 is the judged bar, b2 the one before.
 // All is proved, nothing is assumed, and no public function has a `requires`: each contract is an equation with a definition of specs/,
 // for every input.
+#![tactic(auto)]
+
 ghost use Rattle.std.specs.Prelude.{◌≡◌};
 ghost use Rattle.measures.specs.declared.folds.Column.TheVariants.{Close};
 ghost use Rattle.measures.specs.Bar.{bars_of};

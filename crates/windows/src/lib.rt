@@ -1,5 +1,7 @@
 // Windows of lent prices, four to a bar. All is proved, nothing is assumed, and no public function has a `requires`: each contract is an
 // equation with a definition of specs/, for every input.
+#![tactic(auto)]
+
 ghost use Rattle.std.specs.Prelude.{◌≡◌, ◌≤◌, length, take};
 ghost use Prim.Native.Nat as Nat;
 ghost use Rattle.prices.specs.Bar.{bars_of};
