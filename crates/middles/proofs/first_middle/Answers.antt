@@ -1,0 +1,16 @@
+-- From a window of two bars, which has no middle, those that there are enter; three are folded at once. Assumes nothing.
+use mathlib.Core.Path.{sym}
+use native.Mathlib.Omega.{arith}
+use Rattle.measures.specs.Bar.{bars_of}
+use Rattle.middles.proofs.MiddleLaws.{at-two, at-end, at-grown, three-at}
+use Rattle.middles.proofs.first_middle.Goals as goal
+
+pub returns-then-count-lt5 : goal.returns-then-count-lt5
+returns-then-count-lt5 c =
+    let w = bars_of c.args.w.now in
+    rw (c.grow.ensures, c.grow-one.ensures, c.no_middle-none.ensures, sym (at-two w), at-grown w 2 (omega arith), at-grown w 3 (omega arith)) (sym (at-end w 4 (omega arith)))
+
+pub returns-else-count-lt5 : goal.returns-else-count-lt5
+returns-else-count-lt5 c =
+    let w = bars_of c.args.w.now in
+    rw (c.middle_of_three.ensures, c.back-else-count-lt5-2.ensures, c.back-else-count-lt5.ensures, c.back.ensures) (three-at w (omega arith))
