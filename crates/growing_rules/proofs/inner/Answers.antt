@@ -1,0 +1,12 @@
+-- The code is the definition.
+use Rattle.growing_rules.specs.GrowingRule.{inner_of}
+use Rattle.growing_rules.proofs.inner.Goals as goal
+
+pub returns : goal.returns
+unfolding inner_of
+returns c =
+    simp (
+      c.last_bars.ensures.bars,
+      c.minus.ensures,
+      c.count.ensures,
+    )

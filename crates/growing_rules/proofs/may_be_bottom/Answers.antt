@@ -1,0 +1,8 @@
+-- The code is the definition. Assumes nothing.
+use mathlib.Core.Path.{refl}
+use Rattle.growing_rules.specs.SearchSteps.{may_be_bottom}
+use Rattle.growing_rules.proofs.may_be_bottom.Goals as goal
+
+pub returns : goal.returns
+unfolding may_be_bottom
+returns c = refl

@@ -1,0 +1,30 @@
+-- Before the end what was found is the search's; a window that is not tried, or fails, adds nothing. Assumes nothing.
+use Prim.Native.Nat.{◌+◌}
+use mathlib.Core.Path.{sym, ◌∙◌}
+use mathlib.Core.Bool.{and-eq-true_iff}
+use native.Mathlib.Omega.{arith}
+use borrow.Author.Tests.{ltb-true}
+use lib.Dec.{ltb}
+use Rattle.measures.specs.Bar.{bars_of}
+use Rattle.growing_rules.specs.declared.Shape.TheVariants.{Tower}
+use Rattle.growing_rules.proofs.GrowingNeeds.{found_at, found-stays}
+use Rattle.growing_rules.proofs.tower_at.Goals as goal
+
+pub find_at-requires : goal.find_at-requires
+find_at-requires c =
+    let a = c.args in
+    let fits = (and-eq-true_iff (ltb a.n a.end) a.may).0 c.if-fits.true in
+    let before = ltb-true a.n a.end fits.0 in
+    (c.requires.0, c.requires.1, c.requires.2 ∙ found_at Tower a.end (bars_of a.w.now) a.n a.n (omega (arith, before)), sym c.requires.3 ∙ fits.1)
+
+pub returns-then-fits : goal.returns-then-fits
+returns-then-fits c =
+    let a = c.args in
+    let fits = (and-eq-true_iff (ltb a.n a.end) a.may).0 c.if-fits.true in
+    let before = ltb-true a.n a.end fits.0 in
+    c.find_at.ensures ∙ sym (found_at Tower a.end (bars_of a.w.now) (a.n + 1) (a.n + 1) (omega (arith, before)))
+
+pub returns-else-fits : goal.returns-else-fits
+returns-else-fits c =
+    let a = c.args in
+    c.requires.2 ∙ sym (found-stays Tower a.end (bars_of a.w.now) a.n c.requires.0 (rw c.requires.3 at c.if-fits.false))
