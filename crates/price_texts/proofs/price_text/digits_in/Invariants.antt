@@ -1,0 +1,14 @@
+use Prim.Native.Nat.{◌≤◌, ◌+◌, ◌-◌}
+use mathlib.Core.Path.{◌≡◌, sym, ◌∙◌}
+use native.Mathlib.Omega.{arith}
+use borrow.Author.Tests.{not-true, not-false}
+use lib.ListN.{length, drop}
+use Rattle.price_texts.specs.PriceText.{is_digit, digits_in}
+use Rattle.input_lines.proofs.RunLaws.{run-stop, run-go, run_end}
+use Rattle.price_texts.proofs.price_text.digits_in.Given as goal
+
+abbrev pub invariant-loop-i : goal.invariant-loop-i
+invariant-loop-i l = (l.i ≤ length l.s) × (digits_in l.s ≡ l.i + digits_in (drop l.i l.s))
+
+abbrev pub decreases-loop-i : goal.decreases-loop-i
+decreases-loop-i l = length l.s - l.i
