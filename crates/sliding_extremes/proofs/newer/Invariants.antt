@@ -1,0 +1,23 @@
+use Prim.Native.Nat.{◌+◌, ◌-◌, ◌≤◌, ◌<◌}
+use mathlib.Core.Path.{◌≡◌, sym, ap, ◌∙◌}
+use native.Mathlib.Omega.{arith}
+use borrow.Author.Rules.{rules}
+use lib.ListN.{length, take, drop, length-set}
+use Rattle.measures.specs.Bar.{bars_of}
+use Rattle.measures.specs.Fold.{extremes_of}
+use Rattle.measures.specs.declared.folds.Extremes.{Extremes}
+use Rattle.measures.proofs.RunLaws.{length-bars}
+use Rattle.rule_types.specs.Number.{quarter_bars, numbers}
+use Rattle.rule_types.proofs.ListLaws.{length-numbers}
+use Rattle.sliding_extremes.specs.WindowExtreme.{window_to, window_extremes}
+use Rattle.sliding_extremes.specs.WindowExtremeSteps.{older_extremes}
+use Rattle.sliding_extremes.proofs.SlideLaws.{Joined, stands, joined-next, next-newer, window-joined}
+use Rattle.sliding_extremes.proofs.newer.Given as goal
+
+abbrev pub invariant-loop-k : goal.invariant-loop-k
+invariant-loop-k l =
+    (l.k ≤ quarter_bars) × (length l.highs ≡ quarter_bars) × (length l.lows ≡ quarter_bars) × (l.at + l.k ≤ length (bars_of l.prices) → l.e ≡ extremes_of (take l.k (drop l.at (bars_of l.prices))))
+    × Joined (λ (x : Extremes). x.highest) (bars_of l.prices) l.at l.highs l.k × Joined (λ (x : Extremes). x.lowest) (bars_of l.prices) l.at l.lows l.k
+
+abbrev pub decreases-loop-k : goal.decreases-loop-k
+decreases-loop-k l = quarter_bars - l.k
