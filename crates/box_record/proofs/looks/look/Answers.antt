@@ -1,0 +1,49 @@
+-- A refusal is the answer alone; otherwise the pair is that of the kept bars, and the ordinal is told by N. Assumes nothing.
+use Prim.Native.Nat.{ℕ}
+use mathlib.Core.List.{[], ◌∷◌}
+use mathlib.Core.Path.{◌≡◌, ◌∙◌, sym}
+use Rattle.measures.specs.Window.{up_to}
+use Rattle.recognisers.specs.Label.{Pair}
+use Rattle.recognisers.specs.Table.{pair_at, codes_of}
+use Rattle.recognisers.specs.Refusal.{verdict_number, leaves, answer_to, refusal_in, codes_in, answer_in, ordinal_in, look_verdict, with_ordinal}
+use Rattle.answers.specs.declared.refusals.Verdict.{Verdict, TheVariants.Accepted, TheVariants.Denied}
+use Rattle.answers.specs.declared.Answer.TheVariants.{Labels}
+use Rattle.answers.specs.declared.LookAnswer.{LookAnswer, TheVariants.Judged, TheVariants.Refused}
+use Rattle.box_record.specs.declared.boxes.BarBox.{BarBox}
+use borrow.Author.Rules.{rules}
+use Rattle.box_record.specs.Box.{kept, look_of, look_answer_of}
+use Rattle.box_record.proofs.looks.look.Goals as goal
+
+-- number and values come with it
+module _ (b : BarBox) (k di : ℕ) where
+  abbrev verdict : Verdict
+  verdict = look_verdict k di b.thresholds b.count
+
+  abbrev pair : Pair
+  pair = pair_at k b.thresholds b.count (kept b) di
+
+  values-in : (r : LookAnswer) (v : Verdict) → r ≡ with_ordinal (answer_to v (Labels pair)) (up_to b.count di)
+      → (refusal_in (answer_in r) ≡ verdict_number v) × ((codes_in (answer_in r) ≡ leaves v [] (codes_of (pair ∷ []))) × (ordinal_in r ≡ leaves v 0 (up_to b.count di)))
+  values-in r Accepted e = (rw e, (rw e, rw e))
+  values-in r (Denied why) e = (rw e, (rw e, rw e))
+
+  values : (r : LookAnswer) → r ≡ look_answer_of b k di
+      → (refusal_in (answer_in r) ≡ verdict_number verdict) × ((codes_in (answer_in r) ≡ leaves verdict [] (codes_of (pair ∷ []))) × (ordinal_in r ≡ leaves verdict 0 (up_to b.count di)))
+  unfolding look_answer_of look_of
+  values r = values-in r verdict
+
+pub returns-in-Denied : goal.returns-in-Denied
+unfolding look_answer_of look_of
+returns-in-Denied c =
+    let args = c.args in
+    let e : Refused c.in-Denied.why ≡ look_answer_of args.b args.k args.di = simp (sym c.look_verdict.ensures ∙ c.in-Denied.is) in
+    let told = values args.b args.k args.di _ e in
+    record { answer = e; number = told.0; values = told.1 }
+
+pub returns-in-Accepted : goal.returns-in-Accepted
+unfolding look_answer_of look_of
+returns-in-Accepted c =
+    let args = c.args in
+    let e : Judged c.pair_back.result c.judged_ordinal.result ≡ look_answer_of args.b args.k args.di = simp (sym c.look_verdict.ensures ∙ c.in-Accepted.is, c.pair_back.ensures, c.judged_ordinal.ensures) in
+    let told = values args.b args.k args.di _ e in
+    record { answer = e; number = told.0; values = told.1 }
