@@ -152,15 +152,15 @@ unfolding empty_places
 fresh-none t = record { none = refl; all-places = refl }
 
 -- by whether the thresholds are inside their limits: "a refused box-making returns a fresh box with the standard set"
-made_by : (t : Thresholds) (v : Bool) → valid_of t ≡ v → Fresh t (made_by (cond (not v) (Denied BadThreshold) Accepted) t)
+by_limits : (t : Thresholds) (v : Bool) → valid_of t ≡ v → Fresh t (made_by (cond (not v) (Denied BadThreshold) Accepted) t)
 unfolding empty_places
-made_by t true e = record { no-bars = fresh-none t; thresholds = rw e; valid = e; zeros = refl }
-made_by t false e = record { no-bars = fresh-none standard_set; thresholds = rw e; valid = standard-valid; zeros = refl }
+by_limits t true e = record { no-bars = fresh-none t; thresholds = rw e; valid = e; zeros = refl }
+by_limits t false e = record { no-bars = fresh-none standard_set; thresholds = rw e; valid = standard-valid; zeros = refl }
 
 -- for any thresholds
 made : (t : Thresholds) → Fresh t (made_of t).after
 unfolding made_of first_true
-made t = made_by t (valid_of t) refl
+made t = by_limits t (valid_of t) refl
 
 -- "and zeros where there are fewer"
 zeros-after : (t : Thresholds) (fs : List Feed)

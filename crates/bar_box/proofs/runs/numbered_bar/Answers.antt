@@ -1,0 +1,6 @@
+-- The bar that is lent there, and its ordinal. Assumes nothing.
+use borrow.Author.Rules.{rules}
+use Rattle.bar_box.proofs.runs.numbered_bar.Goals as goal
+
+pub returns : goal.returns
+returns c = simp c.bar_or_none.ensures

@@ -1,0 +1,19 @@
+use Prim.Native.Nat.{◌+◌, ◌-◌, ◌*◌, ◌≤◌}
+use mathlib.Core.Path.{◌≡◌, refl, sym}
+use native.Mathlib.Omega.{arith}
+use borrow.Author.Rules.{rules}
+use lib.ListN.{length, take, length-set}
+use lib.Seq.{take_all}
+use Rattle.recognisers.specs.Label.{pair_a}
+use Rattle.recognisers.specs.Number.{recognisers}
+use Rattle.recognisers.specs.Table.{codes_of}
+use Rattle.measures.specs.Bar.{overlay}
+use Rattle.measures.proofs.Overlay.{overlay-none}
+use Rattle.bar_box.proofs.RowLaws.{overlay-codes}
+use Rattle.bar_box.proofs.sheets.write_row.Given as goal
+
+abbrev pub invariant-loop-k : goal.invariant-loop-k
+invariant-loop-k l = (l.k ≤ recognisers) × (l.place ≡ l.at + 2 * l.k) × (length l.sheet ≡ length l.initial.sheet) × (l.sheet ≡ overlay l.initial.sheet l.at (codes_of (take l.k l.pairs)))
+
+abbrev pub decreases-loop-k : goal.decreases-loop-k
+decreases-loop-k l = recognisers - l.k
