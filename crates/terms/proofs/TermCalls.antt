@@ -192,13 +192,13 @@ module _ (l : Layer) (start : NoneYet l) where
 
 -- ---- the layer that making gives
 
-made_by : (v : Verdict) (t : Thresholds) (h : Hours) (m : ℕ) → NoneYet (made_by v t h m)
-made_by Accepted t h m = record { nothing = refl; no-bars = fresh-none t }
-made_by (Denied r) t h m = record { nothing = refl; no-bars = fresh-none standard_set }
+by_verdict : (v : Verdict) (t : Thresholds) (h : Hours) (m : ℕ) → NoneYet (made_by v t h m)
+by_verdict Accepted t h m = record { nothing = refl; no-bars = fresh-none t }
+by_verdict (Denied r) t h m = record { nothing = refl; no-bars = fresh-none standard_set }
 
 made-any : (t : Thresholds) (h : Hours) (m : ℕ) → NoneYet (made_of t h m).after
 unfolding made_of
-made-any t h m = made_by (make_verdict t h m) t h m
+made-any t h m = by_verdict (make_verdict t h m) t h m
 
 -- one window from 0 to 1,440 and 5 keep the rules
 pub standard-layer : valid_layer whole_day 5 nothing_yet ≡ true

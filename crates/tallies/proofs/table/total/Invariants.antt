@@ -1,0 +1,17 @@
+use Prim.Native.Nat.{◌-◌, ◌*◌, ◌≤◌}
+use mathlib.Core.Path.{◌≡◌, refl, ◌∙◌}
+use native.Mathlib.Numerals.{add-one}
+use native.Mathlib.Omega.{arith}
+use borrow.Author.Rules.{rules}
+use lib.ListN.{length, take, length-map}
+use lib.Seq.{take-suc, take_all}
+use Rattle.recognisers.specs.Number.{labels}
+use Rattle.tallies.specs.Tally.{total_of}
+use Rattle.tallies.proofs.TallyLaws.{total-snoc}
+use Rattle.tallies.proofs.table.total.Given as goal
+
+abbrev pub invariant-loop-c : goal.invariant-loop-c
+invariant-loop-c l = (l.c ≤ labels) × (l.sum ≤ l.c * 4294967295) × (length l.counts ≡ labels) × (l.sum ≡ total_of (take l.c l.counts))
+
+abbrev pub decreases-loop-c : goal.decreases-loop-c
+decreases-loop-c l = labels - l.c
