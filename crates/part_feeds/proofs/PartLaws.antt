@@ -1,6 +1,7 @@
 -- A feed of a part of the bars, on its part of the sheet, after feeds of those before them; without and with a tally. Assumes nothing.
 use Prim.Native.Nat.{ℕ, ◌+◌, ◌-◌, ◌*◌, ◌≤◌}
 use mathlib.Core.Path.{◌≡◌, sym, ◌∙◌}
+use mathlib.Core.Bool.{Bool, cond}
 use mathlib.Core.List.{List}
 use native.Mathlib.Omega.{arith}
 use borrow.Rule.Slice.PartMut.{put_mid}
@@ -25,6 +26,10 @@ use Rattle.tallies.specs.Tally.{Shaped, counted}
 use Rattle.tallies.specs.Feed.{lent, verdict_with, tallied_of, tallied_sheet}
 use Rattle.tallies.proofs.FeedLaws.{plain-verdict, accepted-adds, accepted-plain, tallied-accepted}
 use Rattle.tallies.proofs.PartLaws.{parts_add, parts-counted}
+
+-- the tally with rows counted, if that is asked for
+abbrev pub brought : Bool → List ℕ → List TallyRow → List TallyRow
+brought counts rows tally = cond counts (counted rows tally) tally
 
 -- the prices of n bars from a bar on
 abbrev pub part_of : List Float → ℕ → ℕ → List Float

@@ -12,8 +12,8 @@ module _ (used len bars most : ℕ) (going : Bool) where
   abbrev goes : Bool
   goes = (ltb used len && ltb bars most) && going
 
-  pub goes_on : goes ≡ true → (used < len) × (bars < most) × (going ≡ true)
-  goes_on e =
+  pub turn-goes_on : goes ≡ true → (used < len) × (bars < most) × (going ≡ true)
+  turn-goes_on e =
       let all = both (ltb used len && ltb bars most) going e in
       let two = both (ltb used len) (ltb bars most) all.0 in
       (ltb-true used len two.0, ltb-true bars most two.1, all.1)

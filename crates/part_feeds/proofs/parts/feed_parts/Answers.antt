@@ -1,0 +1,26 @@
+-- A refusal leaves all; otherwise the feeds are made. Assumes nothing.
+use mathlib.Core.Path.{◌≡◌, refl, sym, ◌∙◌}
+use mathlib.Core.Bool.{Bool, true, false, cond}
+use borrow.Author.Rules.{rules}
+use Rattle.tallies.specs.Feed.{lent, tallied_sheet}
+use Rattle.tallies.proofs.FeedLaws.{tallied-refused}
+use Rattle.part_feeds.proofs.parts.feed_parts.Goals as goal
+
+same : {A : Type 0} (b : Bool) (x : A) → cond b x x ≡ x
+same true x = refl
+same false x = refl
+
+pub take_parts-requires : goal.take_parts-requires
+take_parts-requires c =
+    let call = c.tally_verdict.ensures in
+    (sym call.0 ∙ c.in-Accepted.is, call.1)
+
+pub returns-in-Denied : goal.returns-in-Denied
+unfolding tallied_sheet
+returns-in-Denied c =
+    let args = c.args in
+    let denied = sym c.tally_verdict.ensures.0 ∙ c.in-Denied.is in
+    (rw (tallied-refused args.b args.tally (lent args.prices.now args.sheet.now) _ denied, same args.counts args.tally), simp denied)
+
+pub returns-in-Accepted : goal.returns-in-Accepted
+returns-in-Accepted c = c.take_parts.ensures

@@ -1,0 +1,34 @@
+use Prim.Native.Nat.{◌+◌, ◌-◌, ◌*◌, ◌≤◌, ◌<◌}
+use mathlib.Core.Bool.{true}
+use mathlib.Core.List.{[], ◌++◌, append-nil}
+use mathlib.Core.Path.{◌≡◌, refl, sym, ap, ◌∙◌}
+use native.Mathlib.Omega.{arith}
+use borrow.Author.Rules.{rules}
+use lib.ListN.{length, take, drop, length-append, length-drop}
+use Rattle.measures.specs.Bar.{overlay, prices_of}
+use Rattle.measures.proofs.Overlay.{overlay-none, overlay-more}
+use Rattle.measures.proofs.PriceLaws.{length-prices, prices-append}
+use Rattle.input_lines.specs.Lines.{content, kept_line, partial_of}
+use Rattle.input_lines.proofs.LineLaws.{content-partial}
+use Rattle.input_lines.proofs.PartLaws.{to_end}
+use Rattle.tally_lines.specs.declared.reading.Gathered.{Gathered}
+use Rattle.output_lines.specs.Output.{goes_on}
+use Rattle.tally_lines.specs.Session.{read_from}
+use Rattle.tally_lines.proofs.ReadLaws.{read_kept, read-turn, gathered-is, begun_kept}
+use Rattle.tally_lines.proofs.reading.gather.Given as goal
+
+abbrev pub invariant-loop-used : goal.invariant-loop-used
+invariant-loop-used l =
+    let read = read_from [] (content l.initial.begun) (take l.used l.chunk) in
+    (l.used ≤ length l.chunk)
+    × (l.bars ≤ l.most)
+    × (length l.prices ≡ length l.initial.prices)
+    × (l.begun ≡ partial_of read.line)
+    × (l.bars ≡ length read.bars)
+    × (l.stop ≡ read.stop)
+    × (l.going ≡ goes_on l.stop)
+    × (l.prices ≡ overlay l.initial.prices 0 (prices_of read.bars))
+    × (l.used ≡ 0 → (l.bars < l.most) × (l.going ≡ true))
+
+abbrev pub decreases-loop-used : goal.decreases-loop-used
+decreases-loop-used l = length l.chunk - l.used

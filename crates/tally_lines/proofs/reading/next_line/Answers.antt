@@ -1,0 +1,45 @@
+-- The bytes of a line, with or without its end. Assumes nothing.
+use Prim.Native.Nat.{◌*◌, ◌≤◌, ◌<◌}
+use mathlib.Core.List.{[], ◌++◌}
+use mathlib.Core.Path.{◌≡◌, refl, sym}
+use native.Mathlib.Omega.{arith}
+use lib.ListN.{length, take}
+use Rattle.measures.specs.Bar.{prices_of}
+use Rattle.measures.proofs.Overlay.{overlay-none}
+use Rattle.text.specs.LineText.{line_of}
+use Rattle.input_lines.specs.Lines.{content, kept_line}
+use Rattle.input_lines.proofs.LineLaws.{content-partial}
+use Rattle.output_lines.specs.declared.output.Stop.TheVariants.{Going}
+use Rattle.tally_lines.specs.Session.{Read, read_from, line_bars, line_stop}
+use Rattle.tally_lines.proofs.ReadLaws.{read-line, read-rest, bars-few, gathered-is}
+use lib.Seq.{length-take-le}
+use borrow.Author.Rules.{rules}
+use Rattle.tally_lines.proofs.reading.next_line.Goals as goal
+
+pub slice_bounds-extend-end : goal.slice_bounds-extend-end
+slice_bounds-extend-end c = sym (length-take-le _ _ c.piece_end-k.ensures.1)
+
+pub returns-then-k-chunk : goal.returns-then-k-chunk
+returns-then-k-chunk c =
+    let args = c.args in
+    let chunk = args.chunk.now in
+    let k = c.piece_end-k.result in
+    let inside : k < length chunk = c.if-k-chunk.true in
+    let says : content c.extend-longer.result ≡ kept_line (content args.line ++ take k chunk) = rw c.extend-longer.ensures (content-partial _) in
+    let did = rw says at c.end_line.ensures in
+    let l = line_of (kept_line (content args.line ++ take k chunk)) in
+    let r : Read = record { bars = line_bars l; line = []; stop = line_stop l } in
+    let read : read_from [] (content args.line) (take c.end_line.result.used chunk) ≡ r = rw did.1 (read-line (content args.line) chunk k c.piece_end-k.ensures.0 inside) in
+    let few = bars-few l in
+    record { le_used = (omega (arith, did.1), omega (arith, did.1, inside), omega (arith, did.2, few)); value = (rw read (gathered-is c.end_line.result c.end_line.result.used args.n r did.0 refl did.2 did.3), rw read did.4) }
+
+pub returns-else-k-chunk : goal.returns-else-k-chunk
+unfolding prices_of
+returns-else-k-chunk c =
+    let args = c.args in
+    let chunk = args.chunk.now in
+    let k = c.piece_end-k.result in
+    let all : length chunk ≤ k = c.if-k-chunk.false in
+    let r : Read = record { bars = []; line = kept_line (content args.line ++ take k chunk); stop = Going } in
+    let read = read-rest (content args.line) chunk k c.piece_end-k.ensures.0 in
+    record { le_used = (omega (arith, c.requires.0), c.piece_end-k.ensures.1, omega arith); value = (rw read (gathered-is (record { line = c.extend-longer.result; used = k; bars = args.n; stop = Going }) k args.n r c.extend-longer.ensures refl (omega arith) refl), rw read (sym (overlay-none args.prices.now (4 * args.n)))) }

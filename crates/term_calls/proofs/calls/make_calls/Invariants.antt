@@ -1,0 +1,24 @@
+use Prim.Native.Nat.{ℕ, ◌+◌, ◌-◌, ◌*◌, ◌≤◌}
+use mathlib.Core.Path.{◌≡◌, refl, sym, ◌∙◌}
+use mathlib.Core.List.{List, [], ◌++◌}
+use native.Mathlib.Omega.{arith}
+use native.Mathlib.Nat.{sub-zero}
+use borrow.Author.Rules.{rules}
+use lib.ListN.{length, take, drop, drop_of_length-le, take-append-drop}
+use lib.Seq.{take_all}
+use Rattle.measures.specs.Bar.{overlay}
+use Rattle.measures.proofs.Overlay.{overlay-none}
+use Rattle.recognisers.specs.Number.{row_bytes, most_bars}
+use Rattle.term_calls.specs.Numbers.{written_to}
+use Rattle.term_calls.specs.TermCalls.{answers_of, sheet_through}
+use Rattle.term_calls.proofs.ListLaws.{overlay-then}
+use Rattle.term_calls.proofs.CallLaws.{rows_at, call_next}
+use Rattle.term_calls.proofs.calls.make_calls.Given as goal
+
+abbrev pub invariant-loop-i : goal.invariant-loop-i
+invariant-loop-i l = (l.i ≤ length l.sizes) × (l.p ≤ length l.prices) × (l.s ≤ length l.stamps) × (l.at ≤ length l.sheet) × (length l.sheet ≡ length l.initial.sheet) × (length l.answers ≡ length l.initial.answers)
+    × (sheet_through l.initial.layer l.prices l.stamps l.initial.sheet l.sizes ≡ take l.at l.sheet ++ sheet_through l.layer (drop l.p l.prices) (drop l.s l.stamps) (drop l.at l.sheet) (drop l.i l.sizes))
+    × (written_to l.initial.answers (answers_of l.initial.layer l.prices l.stamps l.initial.sheet l.sizes) ≡ overlay l.answers l.i (take (length l.answers - l.i) (answers_of l.layer (drop l.p l.prices) (drop l.s l.stamps) (drop l.at l.sheet) (drop l.i l.sizes))))
+
+abbrev pub decreases-loop-i : goal.decreases-loop-i
+decreases-loop-i l = length l.sizes - l.i
