@@ -1,0 +1,35 @@
+-- The loop's invariant: the counts passed have their numbers. Assumes nothing.
+use Prim.Native.Nat.{ℕ, ◌+◌, ◌-◌, ◌*◌, ◌≤◌, ◌<◌}
+use mathlib.Core.List.{append-nil}
+use mathlib.Core.Path.{◌≡◌, refl, ◌∙◌}
+use native.Mathlib.Nat.{zero-add}
+use native.Mathlib.Omega.{arith}
+use borrow.Author.Rules.{rules}
+use lib.ListN.{length, get_or, replicate, length-replicate, get_or-replicate, drop_of_length-le}
+use lib.Seq.{take_all}
+use Rattle.recognisers.specs.Number.{labels}
+use Rattle.tallies.specs.Tally.{by_place}
+use Rattle.tallies.proofs.PlaceLaws.{changed, changed-next}
+use Rattle.exports.proofs.tally.row_of.Goals as goal
+
+pub loop-c-init : goal.loop-c-init
+unfolding by_place
+loop-c-init c = (omega arith, refl)
+
+pub loop-c-preserved : goal.loop-c-preserved
+loop-c-preserved c =
+    let numbers = c.args.numbers.now in
+    let k = c.args.k in
+    let i = c.loop-c.c in
+    let zeros = replicate {A = ℕ} labels 0 in
+    let inside : i < length zeros = omega (arith, length-replicate {A = ℕ} labels 0) in
+    let change : ℕ → ℕ → ℕ = λ i count. count + get_or numbers (labels * k + i) 0 in
+    let number : c.number_at.result ≡ change i (get_or zeros i 0) = c.number_at.ensures ∙ rw (get_or-replicate {A = ℕ} labels i 0 0 (omega arith), zero-add) in
+    (omega arith, rw (c.loop-c.invariant.1, number) (changed-next change zeros i 0 inside))
+
+pub returns : goal.returns
+returns c =
+    let inv = c.loop-c.invariant in
+    let all : c.loop-c.c ≡ labels = omega arith in
+    let zeros = replicate {A = ℕ} labels 0 in
+    rw (all, take_all labels zeros (omega (arith, length-replicate {A = ℕ} labels 0)), drop_of_length-le zeros {i = labels} (omega (arith, length-replicate {A = ℕ} labels 0)), append-nil) at inv.1
