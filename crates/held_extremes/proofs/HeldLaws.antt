@@ -6,8 +6,7 @@ use mathlib.Core.Bool.{Bool, true, false}
 use mathlib.Core.List.{List, [], ◌∷◌, ◌++◌, map}
 use native.Mathlib.Omega.{arith}
 use borrow.Author.Tests.{ne_eqb}
-use lib.Dec.{eqb}
-use lib.ListN.{length, get_or, take, drop, replicate, length-map, length-drop, get_or-map}
+use lib.ListN.{length, get_or, drop, replicate, length-map, length-drop, get_or-map}
 use lib.Seq.{get_or-drop, take-length}
 use lib.Ieee.{Float, nan, inf}
 use Rattle.measures.specs.Bar.{Bar, no_bar}

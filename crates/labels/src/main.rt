@@ -3,7 +3,8 @@
 #![tactic(auto)]
 
 use label_lines::{Session, session};
-use libc::{STDIN_FILENO, STDOUT_FILENO};
+use std::io;
+use std::io::{Read, Write};
 
 // The session after some bytes of input, and whether to go on: no line was refused, and all that was printed could be written.
 #[derive(Clone, Copy)]
@@ -13,8 +14,8 @@ struct Pumped {
 }
 
 // Takes the bytes in and writes what they print, before more input is waited for.
-fn pump(st: Session, chunk: &[u8]) -> Pumped {
-    let mut out = io::large_buffer();
+fn pump(st: Session, chunk: &[u8], output: &mut impl Write) -> Pumped {
+    let mut out = [0u8; 65536];
     let mut now = st;
     let mut at = 0usize;
     let mut goes_on = !st.stopped;
@@ -22,7 +23,7 @@ fn pump(st: Session, chunk: &[u8]) -> Pumped {
         let taken = session::absorb(now, &chunk[at..], &mut out);
         let next = taken.session;
         let n = taken.written;
-        let wrote = io::write_all(STDOUT_FILENO, &out[..n]);
+        let wrote = output.write_all(&out[..n]).is_ok();
         goes_on = wrote & !next.stopped;
         at += taken.used;
         now = next;
@@ -34,44 +35,44 @@ fn pump(st: Session, chunk: &[u8]) -> Pumped {
 }
 
 // The input's end.
-fn finish(st: Session) {
-    let mut out = io::large_buffer();
+fn finish(st: Session, output: &mut impl Write) {
+    let mut out = [0u8; 65536];
     let n = session::end(st, &mut out);
-    io::write_all(STDOUT_FILENO, &out[..n]);
+    let _ = output.write_all(&out[..n]);
 }
 
 // What one read brings: nothing at the input's end, where the line that has begun ends. A read that fails ends the program, and the line
 // that has begun is not judged.
-fn read_some(st: Session) -> Pumped {
-    let mut buf = io::large_buffer();
-    let got = libc::read(STDIN_FILENO, &mut buf);
-    if got < 0 {
-        return Pumped {
+fn read_some(st: Session, input: &mut impl Read, output: &mut impl Write) -> Pumped {
+    let mut buf = [0u8; 65536];
+    match input.read(&mut buf) {
+        Err(_) => Pumped {
             session: st,
             goes_on: false,
-        };
-    }
-    let n = io::count(got, &buf);
-    if n == 0 {
-        finish(st);
-        Pumped {
-            session: st,
-            goes_on: false,
+        },
+        Ok(0) => {
+            finish(st, output);
+            Pumped {
+                session: st,
+                goes_on: false,
+            }
         }
-    } else {
-        pump(st, &buf[..n])
+        Ok(n) => pump(st, &buf[..n], output),
     }
 }
 
-// A proved loop has to end, and nothing says that the input does: the turns are counted down from a number that no run uses up.
-fn main() {
+// As many turns as no run uses up: a proved loop has to end, and nothing says that the input does.
+fn main(rt: HostRuntime) {
+    let mut input = rt.reader();
+    let mut output = io::writer(&rt);
     let mut st = session::begin();
     let mut goes_on = true;
-    let mut turns = u64::MAX;
-    while (0 < turns) & goes_on {
-        let read = read_some(st);
+    for _ in 0..u64::MAX {
+        if !goes_on {
+            break;
+        }
+        let read = read_some(st, &mut input, &mut output);
         st = read.session;
         goes_on = read.goes_on;
-        turns -= 1;
     }
 }

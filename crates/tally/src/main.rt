@@ -7,8 +7,9 @@
 // port's labels and with the repository's, and the rows of the labels program add up to it.
 #![tactic(auto)]
 
-use libc::{STDIN_FILENO, STDOUT_FILENO};
 use output_lines::output::goes_on;
+use std::io;
+use std::io::{Read, Write};
 use tally_lines::{Session, session};
 
 // The session after a read, and whether there is more to read.
@@ -19,28 +20,26 @@ struct Turn {
 }
 
 // The tally, or the refusal.
-fn finish(st: Session) {
-    let mut out = io::large_buffer();
+fn finish(st: Session, output: &mut impl Write) {
+    let mut out = [0u8; 65536];
     let n = session::end(st, &mut out);
-    io::write_all(STDOUT_FILENO, &out[..n]);
+    let _ = output.write_all(&out[..n]);
 }
 
 // What one read brings. Nothing is printed before the input's end or a refused line; a read that fails ends the program without a word.
-fn read_some(st: Session) -> Turn {
-    let mut buf = io::large_buffer();
-    let got = libc::read(STDIN_FILENO, &mut buf);
-    if got < 0 {
+fn read_some(st: Session, input: &mut impl Read, output: &mut impl Write) -> Turn {
+    let mut buf = [0u8; 65536];
+    let Ok(n) = input.read(&mut buf) else {
         return Turn {
             session: st,
             goes_on: false,
         };
-    }
-    let n = io::count(got, &buf);
+    };
     let next = session::absorb(st, &buf[..n]);
     let stop = next.stop;
     let goes_on = goes_on(stop) & (0 < n);
     if !goes_on {
-        finish(next);
+        finish(next, output);
     }
     Turn {
         session: next,
@@ -49,14 +48,17 @@ fn read_some(st: Session) -> Turn {
 }
 
 // As many turns as no run uses up: a proved loop has to end, and nothing says that the input does.
-fn main() {
+fn main(rt: HostRuntime) {
+    let mut input = rt.reader();
+    let mut output = io::writer(&rt);
     let mut st = session::begin();
     let mut goes_on = true;
-    let mut turns = u64::MAX;
-    while (0 < turns) & goes_on {
-        let turn = read_some(st);
+    for _ in 0..u64::MAX {
+        if !goes_on {
+            break;
+        }
+        let turn = read_some(st, &mut input, &mut output);
         st = turn.session;
         goes_on = turn.goes_on;
-        turns -= 1;
     }
 }

@@ -35,8 +35,8 @@ mod script;
 
 use bar_box::{BarBox, KeptBar};
 use cuts::{BARS, Cut, Left};
-use libc::{STDIN_FILENO, STDOUT_FILENO};
 use measures::{Bar, least};
+use print::{STDIN_FILENO, STDOUT_FILENO};
 use recognisers::Thresholds;
 use recognisers::counts::PLACES;
 use script::{EMPTY, Line, float};

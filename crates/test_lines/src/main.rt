@@ -17,8 +17,8 @@ mod run;
 mod tally;
 mod tally_runs;
 
-use libc::STDIN_FILENO;
 use measures::least;
+use print::STDIN_FILENO;
 use recognisers::Verdict;
 use recognisers::refusals::refusal_number;
 use run::first;

@@ -18,39 +18,35 @@ mod output;
 mod session;
 mod threshold_bytes;
 
-use libc::STDIN_FILENO;
 use session::Session;
+use std::io::Read;
 
 // Reads once. Where nothing comes, the input has ended.
-fn read_some(session: Session) -> Session {
-    let mut buf = io::buffer();
-    let got = libc::read(STDIN_FILENO, &mut buf);
-    if got <= 0 {
+fn read_some(session: Session, input: &mut impl Read) -> Session {
+    let mut buf = [0u8; 4096];
+    let n = input.read(&mut buf).unwrap_or(0);
+    if n == 0 {
         let mut next = session;
         next.reading = false;
         return next;
     }
-    let n = io::count(got, &buf);
     session.feed(&buf[..n])
 }
 
-// A proved loop has to end, and nothing says that the input does: the loop counts its turns down from a number that no run
-// uses up.
-fn read_all() -> Session {
+// A proved loop has to end, and nothing says that the input does: the loop takes as many turns as no run uses up.
+fn read_all(input: &mut impl Read) -> Session {
     let mut session = Session::new();
-    let mut turns = u64::MAX;
-    while turns > 0 {
-        session = read_some(session);
+    for _ in 0..u64::MAX {
+        session = read_some(session, input);
         if !session.reading {
             return session;
         }
-        turns -= 1;
     }
     session
 }
 
-fn main() {
-    let session = read_all().finish();
+fn main(rt: HostRuntime) {
+    let session = read_all(&mut rt.reader()).finish();
     let output = session.output;
     output.flush();
 }

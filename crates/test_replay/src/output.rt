@@ -4,7 +4,9 @@ ghost use Rattle.test_replay.specs.Buffer.{content};
 ghost use Rattle.test_replay.specs.Output.{with_bytes, WithNumber};
 
 use crate::buffer::{Buffer, CAPACITY};
-use libc::STDOUT_FILENO;
+
+// The descriptor of standard output.
+const STDOUT_FILENO: i32 = 1;
 
 #[derive(Clone, Copy)]
 pub struct Output {

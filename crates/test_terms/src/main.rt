@@ -18,7 +18,7 @@ mod print;
 mod script;
 mod steps;
 
-use libc::STDIN_FILENO;
+use print::STDIN_FILENO;
 use recognisers::Thresholds;
 use script::EMPTY;
 use terms::Layer;

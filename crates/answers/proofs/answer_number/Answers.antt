@@ -1,5 +1,4 @@
 -- Both cases are those of the definition. Assumes nothing.
-use borrow.Author.Rules.{rules}
 use Rattle.answers.proofs.answer_number.Goals as goal
 
 pub returns-in-Labels : goal.returns-in-Labels

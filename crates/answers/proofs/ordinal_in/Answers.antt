@@ -1,5 +1,4 @@
 -- Both answers are those of the definition. Assumes nothing.
-use borrow.Author.Rules.{rules}
 use Rattle.answers.proofs.ordinal_in.Goals as goal
 
 pub returns-in-Judged : goal.returns-in-Judged

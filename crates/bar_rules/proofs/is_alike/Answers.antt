@@ -1,5 +1,4 @@
 -- The code is the definition.
-use borrow.Author.Rules.{rules}
 use Rattle.bar_rules.proofs.is_alike.Goals as goal
 
 pub returns-then-gap : goal.returns-then-gap

@@ -1,6 +1,5 @@
 -- The code is the definition.
 use Rattle.bar_rules.specs.BarRule.{san_fa_v20221115}
-use borrow.Author.Rules.{rules}
 use Rattle.bar_rules.proofs.san_fa_v20221115.Goals as goal
 
 pub returns : goal.returns

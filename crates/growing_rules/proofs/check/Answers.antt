@@ -1,5 +1,4 @@
 -- Each arm of the match is a case of check_of, and of what is given of the shape.
-use borrow.Author.Rules.{rules}
 use Rattle.growing_rules.proofs.check.Goals as goal
 
 pub three_methods-requires : goal.three_methods-requires

@@ -1,7 +1,6 @@
 -- What was found stands; where nothing was, the window of n bars decides. Assumes nothing.
 use mathlib.Core.Path.{sym, ◌∙◌}
 use native.Mathlib.Omega.{arith}
-use borrow.Author.Rules.{rules}
 use Rattle.measures.specs.Bar.{bars_of}
 use Rattle.middles.specs.MiddleSteps.{middle_at}
 use Rattle.growing_rules.specs.SearchSteps.{check_of}

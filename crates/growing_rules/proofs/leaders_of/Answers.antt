@@ -1,12 +1,9 @@
 -- The loop's invariant: the leaders of the i newest bars are found. Assumes nothing.
-use Prim.Native.Nat.{◌≤◌, ◌-◌}
 use mathlib.Core.Path.{◌≡◌, ◌∙◌}
 use native.Mathlib.Omega.{arith}
 use lib.ListN.{length}
 use Rattle.measures.specs.Bar.{bars_of}
-use Rattle.measures.specs.Window.{newest}
 use Rattle.measures.proofs.WindowLaws.{newest-more, newest-none, newest-all}
-use Rattle.growing_rules.specs.SearchSteps.{leaders_of}
 use Rattle.growing_rules.proofs.GrowingLaws.{leaders-grow}
 use Rattle.growing_rules.proofs.leaders_of.Goals as goal
 

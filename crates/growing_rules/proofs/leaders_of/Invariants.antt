@@ -1,12 +1,9 @@
 use Prim.Native.Nat.{◌≤◌, ◌-◌}
-use mathlib.Core.Path.{◌≡◌, ◌∙◌}
-use native.Mathlib.Omega.{arith}
+use mathlib.Core.Path.{◌≡◌}
 use lib.ListN.{length}
 use Rattle.measures.specs.Bar.{bars_of}
 use Rattle.measures.specs.Window.{newest}
-use Rattle.measures.proofs.WindowLaws.{newest-more, newest-none, newest-all}
 use Rattle.growing_rules.specs.SearchSteps.{leaders_of}
-use Rattle.growing_rules.proofs.GrowingLaws.{leaders-grow}
 use Rattle.growing_rules.proofs.leaders_of.Given as goal
 
 abbrev pub invariant-loop-i : goal.invariant-loop-i

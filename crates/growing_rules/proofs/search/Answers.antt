@@ -1,12 +1,8 @@
 -- The loop's invariant: the extremes of the middle at n bars, and what is found in the windows of fewer. Assumes nothing.
-use Prim.Native.Nat.{◌+◌, ◌-◌, ◌≤◌}
+use Prim.Native.Nat.{◌+◌}
 use mathlib.Core.Path.{◌≡◌, ◌∙◌}
 use native.Mathlib.Omega.{arith}
-use borrow.Author.Tests.{not-true}
 use Rattle.measures.specs.Bar.{bars_of}
-use Rattle.measures.specs.Window.{back_of}
-use Rattle.middles.specs.MiddleSteps.{middle_at}
-use Rattle.growing_rules.specs.SearchSteps.{beyond, searched_of}
 use Rattle.growing_rules.proofs.GrowingNeeds.{search-ends, searched-none}
 use Rattle.middles.proofs.MiddleLaws.{at-grown}
 use Rattle.growing_rules.proofs.search.Goals as goal

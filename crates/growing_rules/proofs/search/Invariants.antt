@@ -1,13 +1,8 @@
-use Prim.Native.Nat.{◌+◌, ◌-◌, ◌≤◌}
-use mathlib.Core.Path.{◌≡◌, ◌∙◌}
-use native.Mathlib.Omega.{arith}
-use borrow.Author.Tests.{not-true}
+use Prim.Native.Nat.{◌-◌, ◌≤◌}
+use mathlib.Core.Path.{◌≡◌}
 use Rattle.measures.specs.Bar.{bars_of}
-use Rattle.measures.specs.Window.{back_of}
 use Rattle.middles.specs.MiddleSteps.{middle_at}
-use Rattle.growing_rules.specs.SearchSteps.{beyond, searched_of}
-use Rattle.growing_rules.proofs.GrowingNeeds.{search-ends, searched-none}
-use Rattle.middles.proofs.MiddleLaws.{at-grown}
+use Rattle.growing_rules.specs.SearchSteps.{searched_of}
 use Rattle.growing_rules.proofs.search.Given as goal
 
 abbrev pub invariant-loop-n : goal.invariant-loop-n

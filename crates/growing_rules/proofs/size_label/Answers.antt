@@ -1,7 +1,6 @@
 -- The code is the definition.
 use mathlib.Core.Path.{refl}
 use Rattle.growing_rules.specs.GrowingRule.{size_label, sizes}
-use borrow.Author.Rules.{rules}
 use Rattle.growing_rules.proofs.size_label.Goals as goal
 
 pub returns : goal.returns

@@ -2,7 +2,6 @@
 use Prim.Native.Nat.{◌+◌, ◌-◌}
 use mathlib.Core.Path.{◌≡◌}
 use native.Mathlib.Omega.{arith}
-use borrow.Author.Rules.{rules}
 use Rattle.held_extremes.proofs.ScanLaws.{set_front, set_before}
 use Rattle.held_extremes.proofs.enter.Goals as goal
 

@@ -8,7 +8,6 @@ use Rattle.held_extremes.specs.Candidate.{greater, smaller}
 use Rattle.held_extremes.specs.CandidateSteps.{next_ordinals, next_held}
 use Rattle.held_extremes.proofs.HeldLaws.{by-places}
 use Rattle.held_extremes.proofs.KeepLaws.{over_zeros}
-use borrow.Author.Rules.{rules}
 use Rattle.held_extremes.proofs.held_next.Goals as goal
 
 pub returns : goal.returns

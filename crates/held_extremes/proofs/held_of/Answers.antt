@@ -1,6 +1,5 @@
 -- The places are copied from where they stand. Assumes nothing.
 use mathlib.Core.Path.{◌∙◌}
-use borrow.Author.Rules.{rules}
 use Rattle.held_extremes.proofs.held_of.Goals as goal
 
 pub returns : goal.returns

@@ -4,7 +4,6 @@ use mathlib.Core.Path.{◌≡◌, sym, ap, ◌∙◌}
 use Rattle.held_extremes.specs.Candidate.{same_held}
 use Rattle.held_extremes.specs.CandidateSteps.{stands_in}
 use Rattle.held_extremes.proofs.SameLaws.{held-is}
-use borrow.Author.Rules.{rules}
 use Rattle.held_extremes.proofs.is_held.Goals as goal
 
 pub returns : goal.returns

@@ -1,10 +1,9 @@
 -- Whether all are the same is decided by those not passed. Assumes nothing.
-use Prim.Native.Nat.{◌+◌, ◌-◌, ◌%◌, ◌≤◌, ◌<◌}
-use mathlib.Core.Path.{◌≡◌, refl, sym, ◌∙◌}
+use Prim.Native.Nat.{◌+◌, ◌≤◌, ◌<◌}
+use mathlib.Core.Path.{refl, sym, ◌∙◌}
 use native.Mathlib.Omega.{arith}
-use lib.ListN.{length, take, drop, length-take}
+use lib.ListN.{take, drop, length-take}
 use Rattle.rule_types.specs.Number.{quarter_bars}
-use Rattle.held_extremes.specs.Candidate.{same_ordinals}
 use Rattle.held_extremes.proofs.PartLaws.{same-four, same_none}
 use borrow.Author.Rules.{rules}
 use Rattle.held_extremes.proofs.is_part.Goals as goal

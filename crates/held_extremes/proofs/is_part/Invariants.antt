@@ -1,11 +1,8 @@
-use Prim.Native.Nat.{◌+◌, ◌-◌, ◌%◌, ◌≤◌, ◌<◌}
-use mathlib.Core.Path.{◌≡◌, refl, sym, ◌∙◌}
-use native.Mathlib.Omega.{arith}
-use lib.ListN.{length, take, drop, length-take}
+use Prim.Native.Nat.{◌-◌, ◌%◌, ◌≤◌}
+use mathlib.Core.Path.{◌≡◌}
+use lib.ListN.{take, drop}
 use Rattle.rule_types.specs.Number.{quarter_bars}
 use Rattle.held_extremes.specs.Candidate.{same_ordinals}
-use Rattle.held_extremes.proofs.PartLaws.{same-four, same_none}
-use borrow.Author.Rules.{rules}
 use Rattle.held_extremes.proofs.is_part.Given as goal
 
 abbrev pub invariant-loop-i : goal.invariant-loop-i

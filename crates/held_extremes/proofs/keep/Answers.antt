@@ -1,14 +1,12 @@
 -- The places passed are laid over the others, and make no room. Assumes nothing.
-use Prim.Native.Nat.{◌-◌, ◌≤◌}
-use mathlib.Core.Path.{◌≡◌, refl, sym}
+use mathlib.Core.Path.{refl, sym}
 use native.Mathlib.Omega.{arith}
 use borrow.Author.Rules.{rules}
-use lib.ListN.{length, take, length-set}
-use Rattle.measures.specs.Bar.{bars_of, overlay}
+use lib.ListN.{length-set}
+use Rattle.measures.specs.Bar.{bars_of}
 use Rattle.measures.proofs.Overlay.{overlay-none}
-use Rattle.rule_types.specs.Number.{quarter_bars}
 use Rattle.held_extremes.specs.CandidateSteps.{beyond_for, column_for, bar_price}
-use Rattle.held_extremes.proofs.KeepLaws.{left, Passed, room-ends, all_pass, one_passes}
+use Rattle.held_extremes.proofs.KeepLaws.{room-ends, all_pass, one_passes}
 use Rattle.held_extremes.proofs.keep.Goals as goal
 
 pub loop-i-init : goal.loop-i-init

@@ -1,13 +1,10 @@
 use Prim.Native.Nat.{◌-◌, ◌≤◌}
-use mathlib.Core.Path.{◌≡◌, refl, sym}
-use native.Mathlib.Omega.{arith}
-use borrow.Author.Rules.{rules}
-use lib.ListN.{length, take, length-set}
+use mathlib.Core.Path.{◌≡◌}
+use lib.ListN.{length, take}
 use Rattle.measures.specs.Bar.{bars_of, overlay}
-use Rattle.measures.proofs.Overlay.{overlay-none}
 use Rattle.rule_types.specs.Number.{quarter_bars}
 use Rattle.held_extremes.specs.CandidateSteps.{beyond_for, column_for, bar_price}
-use Rattle.held_extremes.proofs.KeepLaws.{left, Passed, room-ends, all_pass, one_passes}
+use Rattle.held_extremes.proofs.KeepLaws.{left, Passed}
 use Rattle.held_extremes.proofs.keep.Given as goal
 
 abbrev pub invariant-loop-i : goal.invariant-loop-i

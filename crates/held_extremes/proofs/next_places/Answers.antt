@@ -3,12 +3,11 @@ use Prim.Native.Nat.{◌-◌}
 use mathlib.Core.Path.{ap, ◌∙◌}
 use native.Mathlib.Omega.{arith}
 use lib.Dec.{eqb}
-use lib.ListN.{length, get_or, take, drop}
+use lib.ListN.{get_or, take, drop}
 use Rattle.measures.specs.Bar.{bars_of, overlay}
 use Rattle.rule_types.specs.Number.{quarter_bars}
 use Rattle.held_extremes.specs.CandidateSteps.{beyond_for, column_for, bar_price, room_for}
 use Rattle.held_extremes.proofs.KeepLaws.{skips-one, next-laid, next-from}
-use borrow.Author.Rules.{rules}
 use Rattle.held_extremes.proofs.next_places.Goals as goal
 
 pub keep-i-requires : goal.keep-i-requires

@@ -1,8 +1,7 @@
 -- The places passed are copied. Assumes nothing.
-use Prim.Native.Nat.{◌-◌, ◌≤◌}
 use mathlib.Core.Path.{◌≡◌, refl, sym, ◌∙◌}
 use native.Mathlib.Omega.{arith}
-use lib.ListN.{length, take, drop, length-set}
+use lib.ListN.{take, length-set}
 use lib.Seq.{take_all}
 use Rattle.held_extremes.proofs.PartLaws.{part-next}
 use borrow.Author.Rules.{rules}

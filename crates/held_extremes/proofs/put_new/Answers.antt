@@ -1,5 +1,4 @@
 -- The code is the definition. Assumes nothing.
-use borrow.Author.Rules.{rules}
 use Rattle.held_extremes.proofs.put_new.Goals as goal
 
 pub returns-then-is_nan : goal.returns-then-is_nan

@@ -1,8 +1,7 @@
 -- The bars passed are scanned. Assumes nothing.
-use Prim.Native.Nat.{◌+◌, ◌-◌, ◌*◌, ◌≤◌}
+use Prim.Native.Nat.{◌+◌, ◌-◌, ◌≤◌}
 use mathlib.Core.Path.{◌≡◌, sym, ◌∙◌}
 use native.Mathlib.Omega.{arith}
-use borrow.Author.Rules.{rules}
 use lib.ListN.{length, get_or, drop}
 use lib.Ieee.{le}
 use Rattle.measures.specs.Bar.{bars_of, no_bar}
@@ -12,7 +11,7 @@ use Rattle.rule_types.specs.Number.{quarter_bars}
 use Rattle.held_extremes.specs.Candidate.{greater, smaller}
 use Rattle.held_extremes.proofs.CandidateLaws.{rising, falling, highest, lowest}
 use mathlib.Core.List.{◌∷◌}
-use Rattle.held_extremes.proofs.ScanLaws.{scan-starts, stays_within, Scanned, scan-next, reaches-up, reaches-down, column-from}
+use Rattle.held_extremes.proofs.ScanLaws.{scan-starts, stays_within, scan-next, reaches-up, reaches-down, column-from}
 use Rattle.held_extremes.proofs.scan.Goals as goal
 
 pub loop-i-init : goal.loop-i-init

@@ -1,17 +1,12 @@
-use Prim.Native.Nat.{◌+◌, ◌-◌, ◌*◌, ◌≤◌}
-use mathlib.Core.Path.{◌≡◌, sym, ◌∙◌}
-use native.Mathlib.Omega.{arith}
-use borrow.Author.Rules.{rules}
-use lib.ListN.{length, get_or, drop}
-use lib.Ieee.{le}
-use Rattle.measures.specs.Bar.{bars_of, no_bar}
+use Prim.Native.Nat.{◌+◌, ◌*◌, ◌≤◌}
+use mathlib.Core.Path.{◌≡◌}
+use lib.ListN.{length, drop}
+use Rattle.measures.specs.Bar.{bars_of}
 use Rattle.measures.specs.declared.folds.Column.TheVariants.{High, Low}
 use Rattle.measures.specs.Fold.{column_of}
 use Rattle.rule_types.specs.Number.{quarter_bars}
 use Rattle.held_extremes.specs.Candidate.{greater, smaller}
-use Rattle.held_extremes.proofs.CandidateLaws.{rising, falling, highest, lowest}
-use mathlib.Core.List.{◌∷◌}
-use Rattle.held_extremes.proofs.ScanLaws.{scan-starts, stays_within, Scanned, scan-next, reaches-up, reaches-down, column-from}
+use Rattle.held_extremes.proofs.ScanLaws.{Scanned}
 use Rattle.held_extremes.proofs.scan.Given as goal
 
 abbrev pub invariant-loop-i : goal.invariant-loop-i

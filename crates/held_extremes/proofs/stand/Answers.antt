@@ -14,7 +14,6 @@ use Rattle.held_extremes.specs.CandidateSteps.{price_with}
 use Rattle.held_extremes.proofs.HeldLaws.{length-newest, window-newest, by-places, window-first}
 use Rattle.held_extremes.proofs.PartLaws.{part-first}
 use Rattle.held_extremes.proofs.ScanLaws.{scanned-places}
-use borrow.Author.Rules.{rules}
 use Rattle.held_extremes.proofs.stand.Goals as goal
 
 pub scan-ends-requires : goal.scan-ends-requires

@@ -1,6 +1,5 @@
 -- The code is the definition.
 use Rattle.quarter_rules.specs.QuarterRule.{candle_of}
-use Rattle.std.proofs.Common.{rules}
 use Rattle.quarter_rules.proofs.is_candle.Goals as goal
 
 pub returns : goal.returns

@@ -1,5 +1,4 @@
 -- The rest only matters where the opens are equal. Assumes nothing.
-use Rattle.std.proofs.Common.{rules}
 use Rattle.quarter_rules.proofs.parts_up.Goals as goal
 
 pub returns-then-level : goal.returns-then-level

@@ -1,8 +1,7 @@
 -- The loop's invariant: the first k places have the extremes of their windows, and e those of the bars passed. Assumes nothing.
-use Prim.Native.Nat.{◌+◌, ◌-◌, ◌≤◌, ◌<◌}
+use Prim.Native.Nat.{◌+◌, ◌<◌}
 use mathlib.Core.Path.{◌≡◌, sym, ap, ◌∙◌}
 use native.Mathlib.Omega.{arith}
-use borrow.Author.Rules.{rules}
 use lib.ListN.{length, take, drop, length-set}
 use Rattle.measures.specs.Bar.{bars_of}
 use Rattle.measures.specs.Fold.{extremes_of}
@@ -12,7 +11,7 @@ use Rattle.rule_types.specs.Number.{quarter_bars, numbers}
 use Rattle.rule_types.proofs.ListLaws.{length-numbers}
 use Rattle.sliding_extremes.specs.WindowExtreme.{window_to, window_extremes}
 use Rattle.sliding_extremes.specs.WindowExtremeSteps.{older_extremes}
-use Rattle.sliding_extremes.proofs.SlideLaws.{Joined, stands, joined-next, next-newer, window-joined}
+use Rattle.sliding_extremes.proofs.SlideLaws.{stands, joined-next, next-newer, window-joined}
 use Rattle.sliding_extremes.proofs.newer.Goals as goal
 
 pub loop-k-init : goal.loop-k-init

@@ -1,17 +1,11 @@
-use Prim.Native.Nat.{◌+◌, ◌-◌, ◌≤◌, ◌<◌}
-use mathlib.Core.Path.{◌≡◌, sym, ap, ◌∙◌}
-use native.Mathlib.Omega.{arith}
-use borrow.Author.Rules.{rules}
-use lib.ListN.{length, take, drop, length-set}
+use Prim.Native.Nat.{◌+◌, ◌-◌, ◌≤◌}
+use mathlib.Core.Path.{◌≡◌}
+use lib.ListN.{length, take, drop}
 use Rattle.measures.specs.Bar.{bars_of}
 use Rattle.measures.specs.Fold.{extremes_of}
 use Rattle.measures.specs.declared.folds.Extremes.{Extremes}
-use Rattle.measures.proofs.RunLaws.{length-bars}
-use Rattle.rule_types.specs.Number.{quarter_bars, numbers}
-use Rattle.rule_types.proofs.ListLaws.{length-numbers}
-use Rattle.sliding_extremes.specs.WindowExtreme.{window_to, window_extremes}
-use Rattle.sliding_extremes.specs.WindowExtremeSteps.{older_extremes}
-use Rattle.sliding_extremes.proofs.SlideLaws.{Joined, stands, joined-next, next-newer, window-joined}
+use Rattle.rule_types.specs.Number.{quarter_bars}
+use Rattle.sliding_extremes.proofs.SlideLaws.{Joined}
 use Rattle.sliding_extremes.proofs.newer.Given as goal
 
 abbrev pub invariant-loop-k : goal.invariant-loop-k

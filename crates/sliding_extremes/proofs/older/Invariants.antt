@@ -1,16 +1,12 @@
-use Prim.Native.Nat.{◌-◌, ◌≤◌, ◌<◌}
-use mathlib.Core.Path.{◌≡◌, sym, ap, ◌∙◌}
-use native.Mathlib.Omega.{arith}
-use borrow.Author.Rules.{rules}
-use lib.ListN.{length, take, length-set}
+use Prim.Native.Nat.{◌-◌, ◌≤◌}
+use mathlib.Core.Path.{◌≡◌}
+use lib.ListN.{length, take}
 use Rattle.measures.specs.Bar.{bars_of}
 use Rattle.measures.specs.Fold.{extremes_of}
 use Rattle.measures.specs.Window.{newest}
 use Rattle.measures.specs.declared.folds.Extremes.{Extremes}
-use Rattle.measures.proofs.WindowLaws.{newest-none}
 use Rattle.rule_types.specs.Number.{quarter_bars}
-use Rattle.sliding_extremes.specs.WindowExtremeSteps.{older_extremes}
-use Rattle.sliding_extremes.proofs.SlideLaws.{Laid, none-laid, laid_next, next-older}
+use Rattle.sliding_extremes.proofs.SlideLaws.{Laid}
 use Rattle.sliding_extremes.proofs.older.Given as goal
 
 abbrev pub invariant-loop-i : goal.invariant-loop-i

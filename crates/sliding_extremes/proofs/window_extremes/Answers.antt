@@ -1,5 +1,4 @@
 -- From the end of the run on there is no window, so that its end serves for any place past it. Assumes nothing.
-use borrow.Author.Rules.{rules}
 use mathlib.Core.Path.{refl}
 use native.Mathlib.Omega.{arith}
 use Rattle.sliding_extremes.specs.WindowExtreme.{window_extremes}

@@ -1,6 +1,5 @@
 -- The code is the definition.
 use Rattle.star_rules.specs.StarRule.{star_bodies}
-use borrow.Author.Rules.{rules}
 use Rattle.star_rules.proofs.has_star_bodies.Goals as goal
 
 pub returns : goal.returns

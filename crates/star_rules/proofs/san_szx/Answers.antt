@@ -1,7 +1,6 @@
 -- The code is the definition.
 use Rattle.star_rules.specs.StarRule.{san_szx, doji_count}
 use native.Mathlib.Nat.{add-zero}
-use borrow.Author.Rules.{rules}
 use Rattle.star_rules.proofs.san_szx.Goals as goal
 
 pub returns : goal.returns

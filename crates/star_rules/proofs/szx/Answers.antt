@@ -1,6 +1,5 @@
 -- The code is the definition.
 use Rattle.star_rules.specs.StarRule.{szx}
-use borrow.Author.Rules.{rules}
 use Rattle.star_rules.proofs.szx.Goals as goal
 
 pub returns : goal.returns

@@ -1,7 +1,6 @@
 -- The bar before only matters where the newest comes back. Assumes nothing.
 use mathlib.Core.Path.{◌∙◌, sym}
 use mathlib.Core.Bool.{and-false, and-true}
-use borrow.Author.Rules.{rules}
 use Rattle.two_bar_rules.specs.TwoBarRule.{ci_tou}
 use Rattle.two_bar_rules.proofs.ci_tou.Goals as goal
 

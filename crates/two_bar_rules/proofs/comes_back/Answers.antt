@@ -1,5 +1,4 @@
 -- The quotient only matters where the open lies below. Assumes nothing.
-use borrow.Author.Rules.{rules}
 use Rattle.two_bar_rules.specs.TwoBarRule.{comes_back}
 use Rattle.two_bar_rules.proofs.comes_back.Goals as goal
 

@@ -1,6 +1,5 @@
 -- The quotients only matter where the open lies above. Assumes nothing.
 use mathlib.Core.Bool.{and-false, and-true}
-use borrow.Author.Rules.{rules}
 use Rattle.two_bar_rules.specs.TwoBarRule.{covers_of}
 use Rattle.two_bar_rules.proofs.covers.Goals as goal
 

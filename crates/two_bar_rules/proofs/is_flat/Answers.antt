@@ -1,6 +1,5 @@
 -- The code is the definition.
 use Rattle.two_bar_rules.specs.TwoBarRule.{flat_of}
-use borrow.Author.Rules.{rules}
 use Rattle.two_bar_rules.proofs.is_flat.Goals as goal
 
 pub returns : goal.returns

@@ -2,7 +2,6 @@
 use Prim.Native.Nat.{◌-◌, min}
 use mathlib.Core.Path.{◌∙◌}
 use native.Mathlib.Omega.{arith}
-use borrow.Author.Rules.{rules}
 use lib.ListN.{length}
 use Rattle.prices.specs.Bar.{bars_of}
 use Rattle.windows.specs.Window.{up_to}

@@ -2,7 +2,6 @@
 use mathlib.Core.Path.{refl}
 use native.Mathlib.Omega.{arith}
 use Rattle.windows.proofs.RunLaws.{length-bars}
-use borrow.Author.Rules.{rules}
 use Rattle.windows.proofs.part.Goals as goal
 
 pub overflow_mul-a : goal.overflow_mul-a

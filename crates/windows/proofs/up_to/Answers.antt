@@ -1,6 +1,5 @@
 use borrow.Author.Tests.{eq-eqb, ne_eqb, lt-ltb, le-ltb}
 use Rattle.windows.specs.Window.{up_to}
-use borrow.Author.Rules.{rules}
 use Rattle.windows.proofs.up_to.Goals as goal
 
 pub returns-then-di-eq0 : goal.returns-then-di-eq0

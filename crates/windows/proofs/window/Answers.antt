@@ -1,7 +1,6 @@
 -- The part that the code takes is the definition's. Assumes nothing.
 use borrow.Author.Tests.{eq-eqb, ne_eqb}
 use Rattle.windows.specs.Window.{part_of}
-use borrow.Author.Rules.{rules}
 use Rattle.windows.proofs.window.Goals as goal
 
 pub returns-then-prices-eq0 : goal.returns-then-prices-eq0

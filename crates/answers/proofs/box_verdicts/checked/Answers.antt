@@ -1,7 +1,6 @@
 -- The tests are those of the definition, in its order. Assumes nothing.
 use mathlib.Core.Path.{◌∙◌, sym}
-use borrow.Author.Rules.{rules}
-use borrow.Author.Tests.{eq-eqb, ne_eqb, lt-ltb, le-ltb, not-true, not-false}
+use borrow.Author.Tests.{eq-eqb, ne_eqb, lt-ltb, le-ltb}
 use Rattle.answers.specs.Refusal.{first_true, next_after}
 use Rattle.answers.specs.Refusal.{feed_tried, checked_tried}
 use Rattle.answers.proofs.box_verdicts.checked.Goals as goal

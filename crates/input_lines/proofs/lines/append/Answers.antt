@@ -5,7 +5,7 @@ use mathlib.Core.Path.{◌≡◌, refl, sym}
 use native.Mathlib.Nat.{add-zero}
 use native.Mathlib.Omega.{arith}
 use borrow.Author.Rules.{rules}
-use lib.ListN.{length, take, replicate, length-map, length-set, length-take, length-append}
+use lib.ListN.{length, take, replicate, length-set, length-take, length-append}
 use Rattle.rule_types.specs.Number.{longest_line}
 use Rattle.measures.proofs.RunLaws.{take-least}
 use Rattle.input_lines.specs.Lines.{content}

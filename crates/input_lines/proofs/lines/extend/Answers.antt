@@ -3,8 +3,7 @@ use Prim.Native.Nat.{suc, ℕ}
 use mathlib.Core.List.{List, []}
 use mathlib.Core.Path.{◌≡◌}
 use native.Mathlib.Omega.{arith}
-use borrow.Author.Rules.{rules}
-use lib.ListN.{length, take, length-map, length-take}
+use lib.ListN.{length, take, length-take}
 use Rattle.rule_types.specs.Number.{longest_line}
 use Rattle.measures.proofs.RunLaws.{take-least}
 use Rattle.input_lines.specs.declared.lines.Partial.{Partial}

@@ -1,12 +1,9 @@
 -- The loop's invariant: the bytes passed are no separators. Assumes nothing.
-use Prim.Native.Nat.{ℕ, ◌≤◌, ◌+◌, ◌-◌}
+use Prim.Native.Nat.{ℕ}
 use mathlib.Core.Bool.{Bool, not}
-use mathlib.Core.Path.{◌≡◌}
 use native.Mathlib.Omega.{arith}
 use borrow.Author.Tests.{eq-eqb, ne_eqb}
 use lib.Dec.{eqb}
-use lib.ListN.{length, drop}
-use Rattle.input_lines.specs.Lines.{piece_end}
 use Rattle.input_lines.proofs.RunLaws.{run-stop, run-go, run_end}
 use Rattle.input_lines.proofs.lines.piece_end.Goals as goal
 

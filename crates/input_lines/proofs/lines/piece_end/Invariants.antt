@@ -1,12 +1,7 @@
-use Prim.Native.Nat.{ℕ, ◌≤◌, ◌+◌, ◌-◌}
-use mathlib.Core.Bool.{Bool, not}
+use Prim.Native.Nat.{◌≤◌, ◌+◌, ◌-◌}
 use mathlib.Core.Path.{◌≡◌}
-use native.Mathlib.Omega.{arith}
-use borrow.Author.Tests.{eq-eqb, ne_eqb}
-use lib.Dec.{eqb}
 use lib.ListN.{length, drop}
 use Rattle.input_lines.specs.Lines.{piece_end}
-use Rattle.input_lines.proofs.RunLaws.{run-stop, run-go, run_end}
 use Rattle.input_lines.proofs.lines.piece_end.Given as goal
 
 abbrev pub invariant-loop-i : goal.invariant-loop-i

@@ -1,10 +1,8 @@
 use Prim.Native.Nat.{◌≤◌, ◌+◌, ◌-◌}
-use mathlib.Core.Path.{◌≡◌, sym, ◌∙◌}
-use native.Mathlib.Omega.{arith}
+use mathlib.Core.Path.{◌≡◌}
 use lib.ListN.{drop}
 use Rattle.rule_types.specs.Number.{labels}
 use Rattle.label_texts.specs.LabelText.{texts_of_labels, place_in, code_of_bytes}
-use Rattle.label_texts.proofs.LabelLaws.{place_here, place-on}
 use Rattle.label_texts.proofs.label_text.code_of_bytes.Given as goal
 
 abbrev pub invariant-loop-code : goal.invariant-loop-code

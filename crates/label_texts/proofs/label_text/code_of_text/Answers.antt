@@ -2,8 +2,7 @@
 use mathlib.Core.Path.{◌≡◌}
 use native.Mathlib.Omega.{arith}
 use borrow.Author.Tests.{le-leb, lt-leb}
-use borrow.Author.Rules.{rules}
-use lib.ListN.{length, length-map, length-take}
+use lib.ListN.{length, length-take}
 use Rattle.label_texts.specs.LabelText.{most_bytes, code_of_text}
 use Rattle.label_texts.proofs.label_text.code_of_text.Goals as goal
 use Rattle.label_texts.proofs.label_text.code_of_text.Goals.{Start}

@@ -1,5 +1,4 @@
 -- The text's bytes without the zeros are the label. Assumes nothing.
-use borrow.Author.Rules.{rules}
 use Rattle.label_texts.specs.LabelText.{bytes_of}
 use Rattle.label_texts.proofs.LabelLaws.{short, text-len, text-length, text-bytes, same-is}
 use Rattle.label_texts.proofs.label_text.is_label.Goals as goal

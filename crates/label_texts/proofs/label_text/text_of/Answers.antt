@@ -1,7 +1,6 @@
 -- An element of the table, or no bytes. Assumes nothing.
 use Prim.Native.Nat.{ℕ, ◌-◌, ◌≤◌}
 use mathlib.Core.List.{List, [], ◌++◌}
-use borrow.Author.Rules.{rules}
 use lib.ListN.{length, replicate}
 use Rattle.label_texts.specs.declared.label_text.Text.{Text}
 use Rattle.label_texts.specs.LabelText.{texts_of_labels, most_bytes, text_of}

@@ -1,12 +1,10 @@
-use Rattle.std.proofs.Common.{◌≡◌, ◌-◌, ◌≤◌, true, false, length, get_or, drop, sym, ◌∙◌, arith}
+use Rattle.std.proofs.Common.{◌≡◌, ◌-◌, ◌≤◌, true, false, length, drop}
 use mathlib.Core.List.{foldl}
 use lib.Ieee.{inf, is_nan}
 use Rattle.measures.specs.declared.folds.Column.TheVariants.{High, Low}
 use Rattle.prices.specs.Price.{max_of, min_of}
-use Rattle.prices.specs.Bar.{bars_of, no_bar}
-use Rattle.measures.specs.Fold.{column_of, highest_of, lowest_of, extremes_of}
-use Rattle.prices.proofs.Order.{max-stays-known, min-stays-known}
-use Rattle.measures.proofs.FoldLaws.{turn, turned, max-of-known, min-of-known}
+use Rattle.prices.specs.Bar.{bars_of}
+use Rattle.measures.specs.Fold.{column_of}
 use Rattle.measures.proofs.folds.extremes_of.Given as goal
 
 abbrev pub invariant-loop-i : goal.invariant-loop-i

@@ -1,8 +1,7 @@
 -- The loop's invariant: what is left to fold, from what was found so far, gives what the whole column gives. Assumes nothing.
-use Rattle.std.proofs.Common.{◌≡◌, ◌-◌, ◌≤◌, length, drop, sym, refl, ◌∙◌, arith}
-use mathlib.Core.List.{foldl}
+use Rattle.std.proofs.Common.{sym, refl, ◌∙◌, arith}
 use Rattle.prices.specs.Bar.{bars_of}
-use Rattle.measures.specs.Fold.{fold_step, column_of}
+use Rattle.measures.specs.Fold.{fold_step}
 use Rattle.measures.proofs.FoldLaws.{turn, turned}
 use Rattle.measures.proofs.folds.fold_column.Goals as goal
 

@@ -1,8 +1,7 @@
-use Rattle.std.proofs.Common.{◌≡◌, ◌-◌, ◌≤◌, length, drop, sym, refl, ◌∙◌, arith}
+use Rattle.std.proofs.Common.{◌≡◌, ◌-◌, ◌≤◌, length, drop}
 use mathlib.Core.List.{foldl}
 use Rattle.prices.specs.Bar.{bars_of}
 use Rattle.measures.specs.Fold.{fold_step, column_of}
-use Rattle.measures.proofs.FoldLaws.{turn, turned}
 use Rattle.measures.proofs.folds.fold_column.Given as goal
 
 abbrev pub invariant-loop-i : goal.invariant-loop-i

@@ -1,5 +1,4 @@
 -- Each arm of the match is a case of fold_step.
-use Rattle.std.proofs.Common.{rules}
 use Rattle.measures.proofs.folds.step.Goals as goal
 
 pub returns-in-Highest : goal.returns-in-Highest

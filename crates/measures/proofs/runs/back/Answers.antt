@@ -1,6 +1,5 @@
 -- The code is the definition.
 use Rattle.windows.specs.Window.{back_of}
-use Rattle.std.proofs.Common.{rules}
 use Rattle.measures.proofs.runs.back.Goals as goal
 
 pub returns : goal.returns

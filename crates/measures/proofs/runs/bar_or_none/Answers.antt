@@ -1,5 +1,5 @@
 -- Past the end getD gives the default.
-use Rattle.std.proofs.Common.{◌≤◌, length, sym, ◌∙◌, arith, rules}
+use Rattle.std.proofs.Common.{◌≤◌, length, sym, ◌∙◌, arith}
 use lib.ListN.{get_or-eq_default}
 use Rattle.prices.specs.Bar.{bars_of, no_bar}
 use Rattle.measures.proofs.runs.bar_or_none.Goals as goal

@@ -1,5 +1,5 @@
 -- Four prices one after the other, or none. Assumes nothing.
-use Rattle.std.proofs.Common.{◌*◌, arith, length-set, rules, le-ltb, lt-ltb}
+use Rattle.std.proofs.Common.{◌*◌, arith, length-set, le-ltb, lt-ltb}
 use Rattle.prices.specs.Bar.{prices_of, put_bar}
 use Rattle.measures.proofs.Overlay.{overlay-four}
 use Rattle.measures.proofs.runs.put_bar.Goals as goal

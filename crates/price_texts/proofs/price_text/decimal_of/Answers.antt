@@ -1,9 +1,9 @@
 -- The loop's invariant: the digits left make the same number behind the sum. It stays below 10^18. Assumes nothing.
-use Prim.Native.Nat.{◌<◌, ◌^◌, ◌≤◌, ◌-◌}
-use mathlib.Core.Path.{◌≡◌, refl}
+use Prim.Native.Nat.{◌<◌, ◌^◌, ◌≤◌}
+use mathlib.Core.Path.{refl}
 use native.Mathlib.Omega.{arith}
-use lib.ListN.{drop_of_length-le, length, drop}
-use Rattle.price_texts.specs.PriceText.{digits_in, decimal}
+use lib.ListN.{drop_of_length-le, length}
+use Rattle.price_texts.specs.PriceText.{decimal}
 use Rattle.price_texts.proofs.DigitLaws.{OneMore, one_more, decimal-small}
 use Rattle.price_texts.proofs.price_text.decimal_of.Goals as goal
 use Rattle.price_texts.proofs.price_text.decimal_of.Goals.{In-loop-i}

@@ -1,9 +1,7 @@
-use Prim.Native.Nat.{◌<◌, ◌^◌, ◌≤◌, ◌-◌}
-use mathlib.Core.Path.{◌≡◌, refl}
-use native.Mathlib.Omega.{arith}
-use lib.ListN.{drop_of_length-le, length, drop}
+use Prim.Native.Nat.{◌≤◌, ◌-◌}
+use mathlib.Core.Path.{◌≡◌}
+use lib.ListN.{length, drop}
 use Rattle.price_texts.specs.PriceText.{digits_in, decimal}
-use Rattle.price_texts.proofs.DigitLaws.{OneMore, one_more, decimal-small}
 use Rattle.price_texts.proofs.price_text.decimal_of.Given as goal
 
 abbrev pub invariant-loop-i : goal.invariant-loop-i

@@ -1,10 +1,7 @@
 -- The loop's invariant: the bytes passed are digits. Assumes nothing.
-use Prim.Native.Nat.{◌≤◌, ◌+◌, ◌-◌}
-use mathlib.Core.Path.{◌≡◌, sym, ◌∙◌}
+use mathlib.Core.Path.{sym, ◌∙◌}
 use native.Mathlib.Omega.{arith}
-use borrow.Author.Tests.{not-true, not-false}
-use lib.ListN.{length, drop}
-use Rattle.price_texts.specs.PriceText.{is_digit, digits_in}
+use Rattle.price_texts.specs.PriceText.{is_digit}
 use Rattle.input_lines.proofs.RunLaws.{run-stop, run-go, run_end}
 use Rattle.price_texts.proofs.price_text.digits_in.Goals as goal
 

@@ -1,10 +1,7 @@
 use Prim.Native.Nat.{◌≤◌, ◌+◌, ◌-◌}
-use mathlib.Core.Path.{◌≡◌, sym, ◌∙◌}
-use native.Mathlib.Omega.{arith}
-use borrow.Author.Tests.{not-true, not-false}
+use mathlib.Core.Path.{◌≡◌}
 use lib.ListN.{length, drop}
-use Rattle.price_texts.specs.PriceText.{is_digit, digits_in}
-use Rattle.input_lines.proofs.RunLaws.{run-stop, run-go, run_end}
+use Rattle.price_texts.specs.PriceText.{digits_in}
 use Rattle.price_texts.proofs.price_text.digits_in.Given as goal
 
 abbrev pub invariant-loop-i : goal.invariant-loop-i

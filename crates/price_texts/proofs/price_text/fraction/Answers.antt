@@ -3,7 +3,6 @@ use Prim.Native.Nat.{◌^◌}
 use mathlib.Core.Path.{sym, ◌∙◌, refl}
 use native.Mathlib.Omega.{arith}
 use borrow.Author.Tests.{eq-eqb, ne_eqb, le-leb, lt-leb}
-use borrow.Author.Rules.{rules}
 use Rattle.price_texts.specs.PriceText.{fraction_of}
 use Rattle.price_texts.proofs.DigitLaws.{decimal-small}
 use Rattle.price_texts.proofs.price_text.fraction.Goals as goal

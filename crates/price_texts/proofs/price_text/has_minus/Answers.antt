@@ -1,7 +1,6 @@
 -- The first byte, if there is one. Assumes nothing.
 use Prim.Native.Nat.{ℕ, ◌≤◌}
 use native.Mathlib.Omega.{arith}
-use borrow.Author.Rules.{rules}
 use lib.ListN.{length, get_or-eq_default}
 use Rattle.price_texts.proofs.price_text.has_minus.Goals as goal
 

@@ -1,6 +1,5 @@
 -- Three bytes, one by one. Assumes nothing.
 use borrow.Author.Tests.{eq-eqb, ne_eqb}
-use borrow.Author.Rules.{rules}
 use Rattle.price_texts.specs.PriceText.{nan_text}
 use Rattle.price_texts.proofs.price_text.is_nan_text.Goals as goal
 

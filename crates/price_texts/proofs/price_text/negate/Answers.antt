@@ -1,6 +1,5 @@
 -- A price negated, and text that is none. Assumes nothing.
 use mathlib.Core.Path.{sym, ap}
-use borrow.Author.Rules.{rules}
 use Rattle.price_texts.specs.PriceText.{negated}
 use Rattle.price_texts.proofs.price_text.negate.Goals as goal
 

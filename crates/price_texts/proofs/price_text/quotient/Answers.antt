@@ -1,7 +1,6 @@
 -- The cast is lossless: n is at most 2^53. Assumes nothing.
 use Prim.Native.Nat.{◌^◌}
 use native.Mathlib.Omega.{arith}
-use borrow.Author.Rules.{rules}
 use lib.Dec.{le→leb}
 use lib.Ieee.{in_float}
 use Rattle.price_texts.specs.PriceText.{scaled}

@@ -3,7 +3,6 @@ use Prim.Native.Nat.{◌<◌, ◌≤◌, ◌^◌}
 use mathlib.Core.Path.{◌≡◌, ◌∙◌}
 use native.Mathlib.Omega.{arith}
 use borrow.Author.Tests.{eq-eqb, ne_eqb, le-leb, lt-leb}
-use borrow.Author.Rules.{rules}
 use lib.ListN.{length, take, length-take}
 use Rattle.price_texts.specs.PriceText.{is_digit, digits_in, unsigned_of}
 use Rattle.input_lines.proofs.RunLaws.{run-taken}

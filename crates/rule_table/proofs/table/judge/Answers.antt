@@ -1,6 +1,5 @@
 -- Below its p the short pair of its row, else its rule; past the table there is no such p. Assumes nothing.
 use mathlib.Core.Path.{◌∙◌, sym}
-use borrow.Author.Rules.{rules}
 use Rattle.measures.specs.Bar.{bars_of}
 use Rattle.rule_table.specs.Table.{judge_of}
 use Rattle.rule_table.proofs.TableLaws.{judge-past}

@@ -1,6 +1,5 @@
 -- Both columns of the table are those of its rows. Assumes nothing.
 use Prim.Native.Nat.{◌<◌}
-use borrow.Author.Rules.{rules}
 use Rattle.rule_types.specs.Number.{recognisers}
 use Rattle.rule_table.proofs.TableLaws.{from_at, short-at}
 use Rattle.rule_table.proofs.table.row.Goals as goal

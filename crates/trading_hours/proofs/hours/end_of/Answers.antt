@@ -2,10 +2,9 @@
 use mathlib.Core.Path.{◌≡◌}
 use native.Mathlib.Omega.{arith}
 use native.Mathlib.Nat.{mod-le}
-use lib.ListN.{length, length-map}
+use lib.ListN.{length}
 use Rattle.measures.proofs.RunLaws.{take-least}
 use Rattle.trading_hours.proofs.EndLaws.{end-found}
-use borrow.Author.Rules.{rules}
 use Rattle.trading_hours.proofs.hours.end_of.Goals as goal
 
 pub overflow_sub-minute : goal.overflow_sub-minute

@@ -1,7 +1,6 @@
 -- The tests are those of the definition. Assumes nothing.
 use borrow.Author.Tests.{le-leb, lt-leb}
 use Rattle.trading_hours.specs.Hours.{valid_hours}
-use borrow.Author.Rules.{rules}
 use Rattle.trading_hours.proofs.hours.hours_valid.Goals as goal
 
 pub returns-then-count-lt1 : goal.returns-then-count-lt1

@@ -1,11 +1,10 @@
 -- A window has the minute exactly if its place is one of them. Assumes nothing.
 use mathlib.Core.Path.{◌≡◌}
 use Prim.Native.Nat.{min}
-use lib.ListN.{length, length-map, length-take}
+use lib.ListN.{length, length-take}
 use Rattle.measures.proofs.RunLaws.{take-least}
 use Rattle.trading_hours.specs.Hours.{in_hours, windows_of, minute_of}
 use Rattle.trading_hours.proofs.HourLaws.{any_place}
-use borrow.Author.Rules.{rules}
 use Rattle.trading_hours.proofs.hours.in_hours.Goals as goal
 
 pub returns : goal.returns

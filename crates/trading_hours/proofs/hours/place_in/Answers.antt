@@ -1,12 +1,11 @@
 -- The loop's invariant: the windows passed don't have the minute. Assumes nothing.
-use Prim.Native.Nat.{◌+◌, ◌-◌, ◌≤◌}
 use mathlib.Core.Path.{◌≡◌, sym}
 use native.Mathlib.Omega.{arith}
 use native.Mathlib.Nat.{zero-add}
 use borrow.Author.Rules.{rules}
-use lib.ListN.{length, take, drop}
+use lib.ListN.{length, take}
 use lib.Seq.{get_or-take, length-take-le}
-use Rattle.trading_hours.specs.Hours.{most_windows, place_of, no_window}
+use Rattle.trading_hours.specs.Hours.{most_windows, no_window}
 use Rattle.trading_hours.proofs.HourLaws.{place-next, place_found, place-past}
 use Rattle.trading_hours.proofs.hours.place_in.Goals as goal
 use Rattle.trading_hours.proofs.hours.place_in.Goals.{At-loop-i}

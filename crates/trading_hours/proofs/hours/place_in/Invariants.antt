@@ -1,12 +1,7 @@
 use Prim.Native.Nat.{◌+◌, ◌-◌, ◌≤◌}
-use mathlib.Core.Path.{◌≡◌, sym}
-use native.Mathlib.Omega.{arith}
-use native.Mathlib.Nat.{zero-add}
-use borrow.Author.Rules.{rules}
-use lib.ListN.{length, take, drop}
-use lib.Seq.{get_or-take, length-take-le}
-use Rattle.trading_hours.specs.Hours.{most_windows, place_of, no_window}
-use Rattle.trading_hours.proofs.HourLaws.{place-next, place_found, place-past}
+use mathlib.Core.Path.{◌≡◌}
+use lib.ListN.{take, drop}
+use Rattle.trading_hours.specs.Hours.{place_of}
 use Rattle.trading_hours.proofs.hours.place_in.Given as goal
 
 abbrev pub invariant-loop-i : goal.invariant-loop-i

@@ -1,7 +1,6 @@
 -- Of no minute nothing is taken away. Assumes nothing.
 use mathlib.Core.Path.{sym}
 use native.Mathlib.Nat.{mod-zero}
-use borrow.Author.Rules.{rules}
 use Rattle.trading_hours.proofs.hours.rest.Goals as goal
 
 pub returns-then-m-eq0 : goal.returns-then-m-eq0

@@ -1,12 +1,10 @@
 -- The loop's invariant: the windows rise if those that are left do. Assumes nothing.
-use Prim.Native.Nat.{◌-◌, ◌≤◌}
 use mathlib.Core.Path.{◌≡◌, refl, sym, ◌∙◌}
 use native.Mathlib.Omega.{arith}
 use borrow.Author.Rules.{rules}
-use borrow.Author.Tests.{not-true, not-false}
-use lib.ListN.{length, take, drop, get_or}
+use lib.ListN.{length, take}
 use lib.Seq.{get_or-take, length-take-le}
-use Rattle.trading_hours.specs.Hours.{most_windows, rising_from, follows, no_window}
+use Rattle.trading_hours.specs.Hours.{most_windows, no_window}
 use Rattle.trading_hours.proofs.HourLaws.{rising-next, rising-not, rising-past}
 use Rattle.trading_hours.proofs.hours.rising.Goals as goal
 use Rattle.trading_hours.proofs.hours.rising.Goals.{At-loop-i}

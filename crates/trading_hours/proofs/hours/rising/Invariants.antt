@@ -1,12 +1,7 @@
 use Prim.Native.Nat.{◌-◌, ◌≤◌}
-use mathlib.Core.Path.{◌≡◌, refl, sym, ◌∙◌}
-use native.Mathlib.Omega.{arith}
-use borrow.Author.Rules.{rules}
-use borrow.Author.Tests.{not-true, not-false}
-use lib.ListN.{length, take, drop, get_or}
-use lib.Seq.{get_or-take, length-take-le}
-use Rattle.trading_hours.specs.Hours.{most_windows, rising_from, follows, no_window}
-use Rattle.trading_hours.proofs.HourLaws.{rising-next, rising-not, rising-past}
+use mathlib.Core.Path.{◌≡◌}
+use lib.ListN.{take, drop}
+use Rattle.trading_hours.specs.Hours.{rising_from}
 use Rattle.trading_hours.proofs.hours.rising.Given as goal
 
 abbrev pub invariant-loop-i : goal.invariant-loop-i

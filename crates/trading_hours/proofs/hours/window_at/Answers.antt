@@ -4,7 +4,6 @@ use native.Mathlib.Omega.{arith}
 use lib.ListN.{length, take, get_or-eq_default}
 use lib.Seq.{get_or-take, length-take-le}
 use Rattle.trading_hours.specs.Hours.{no_window}
-use borrow.Author.Rules.{rules}
 use Rattle.trading_hours.proofs.hours.window_at.Goals as goal
 
 pub returns-then-place-n : goal.returns-then-place-n

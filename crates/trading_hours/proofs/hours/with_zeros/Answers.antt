@@ -1,10 +1,9 @@
 -- Place by place: a window in use, or zeros. Assumes nothing.
 use mathlib.Core.Path.{◌≡◌}
-use lib.ListN.{length, length-map}
+use lib.ListN.{length}
 use Rattle.measures.proofs.RunLaws.{take-least}
 use Rattle.trading_hours.specs.Hours.{with_zeros}
 use Rattle.trading_hours.proofs.HourLaws.{zeros-places}
-use borrow.Author.Rules.{rules}
 use Rattle.trading_hours.proofs.hours.with_zeros.Goals as goal
 
 pub returns : goal.returns

@@ -2,38 +2,34 @@
 use Rattle.std.proofs.Common.{arith, rules, le-leb}
 use borrow.Author.Tests.{lt-leb}
 use Rattle.test_replay.specs.Hex.{value_of}
-use Rattle.test_replay.proofs.hex.value.Statement.{statement}
-use Rattle.test_replay.proofs.hex.value.Tie as tie
+use Rattle.test_replay.proofs.hex.value.Goals as goal
 
-returns : tie.Need-returns
+pub returns-in-48-to-57 : goal.returns-in-48-to-57
 unfolding value_of
-returns c =
-    let b = c.before.before.args.b in
+returns-in-48-to-57 c =
+    let b = c.args.b in
     simp (le-leb 48 b (omega arith), le-leb b 57 (omega arith))
 
-returns-2 : tie.Need-returns-2
+pub returns-in-97-to-102 : goal.returns-in-97-to-102
 unfolding value_of
-returns-2 c =
-    let b = c.before.before.before.before.args.b in
+returns-in-97-to-102 c =
+    let b = c.args.b in
     simp (lt-leb b 57 (omega arith), le-leb 48 b (omega arith), le-leb 97 b (omega arith), le-leb b 102 (omega arith))
 
-returns-3 : tie.Need-returns-3
+pub returns-in_default : goal.returns-in_default
 unfolding value_of
-returns-3 c =
-    let b = c.before.args.b in
+returns-in_default c =
+    let b = c.args.b in
     simp (lt-leb 48 b (omega arith), lt-leb 97 b (omega arith))
 
-returns-4 : tie.Need-returns-4
+pub returns-in_default-2 : goal.returns-in_default-2
 unfolding value_of
-returns-4 c =
-    let b = c.before.before.before.args.b in
+returns-in_default-2 c =
+    let b = c.args.b in
     simp (le-leb 48 b (omega arith), lt-leb b 57 (omega arith), lt-leb 97 b (omega arith))
 
-returns-5 : tie.Need-returns-5
+pub returns-in_default-3 : goal.returns-in_default-3
 unfolding value_of
-returns-5 c =
-    let b = c.before.before.before.before.args.b in
+returns-in_default-3 c =
+    let b = c.args.b in
     simp (le-leb 48 b (omega arith), lt-leb b 57 (omega arith), le-leb 97 b (omega arith), lt-leb b 102 (omega arith))
-
-pub value_spec : {M : Type 1} → statement M
-value_spec = tie.close (tie.spec (λ c. search rules) returns returns-2 returns-3 returns-4 returns-5)
