@@ -1,5 +1,5 @@
 /* Eighteen recognisers of candlestick patterns. Three static libraries have the functions that are
- * declared here, and may be linked together; `rt staticlib NAME` writes each to target/staticlib:
+ * declared here, and may be linked together; `bin/staticlib NAME` writes each to target/staticlib:
  *
  *   recognisers   jcc_label
  *   records       jcc_label_bars

@@ -1,4 +1,4 @@
-//! Links the static library that `rt staticlib recognisers` writes.
+//! Links the static library that `bin/staticlib recognisers` writes.
 
 use std::env;
 use std::path::PathBuf;
@@ -14,7 +14,7 @@ fn main() {
     println!("cargo:rerun-if-changed={}", archive.display());
     if !archive.is_file() {
         eprintln!(
-            "{} is missing: run `rt staticlib recognisers` at the repository's root, or name the \
+            "{} is missing: run `bin/staticlib recognisers` at the repository's root, or name the \
              folder of {ARCHIVE} in {VARIABLE}.",
             archive.display()
         );

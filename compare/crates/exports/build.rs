@@ -1,4 +1,4 @@
-//! Links the static library that `rt staticlib exports` writes.
+//! Links the static library that `bin/staticlib exports` writes.
 
 fn main() {
     archive::link("EXPORTS_A");

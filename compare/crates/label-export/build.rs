@@ -1,4 +1,4 @@
-//! Links the static library that `rt staticlib recognisers` writes.
+//! Links the static library that `bin/staticlib recognisers` writes.
 
 fn main() {
     archive::link("RECOGNISERS_A");

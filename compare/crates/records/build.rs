@@ -1,4 +1,4 @@
-//! Links the static library that `rt staticlib records` writes.
+//! Links the static library that `bin/staticlib records` writes.
 
 fn main() {
     archive::link("RECORDS_A");

@@ -1,4 +1,4 @@
-// The export for a host program: numbers, thresholds and bars as bytes, each price's bits little-endian.
+// The call as a host program makes it: numbers, thresholds and bars as bytes, each price's bits little-endian. recognisers_c exports it.
 ghost use Rattle.std.specs.Prelude.{◌≡◌, cond, ◌+◌, ◌*◌, ◌≤◌, ◌<◌, eqb, length, take};
 ghost use Rattle.std.specs.Float.{binary64};
 ghost use Rattle.std.specs.Float.Ieee.{of_bits};
@@ -120,8 +120,7 @@ fn pair_at(k: u32, t: Thresholds, di: u32, s: &[u8]) -> Pair
 }
 
 // The plain call over the bars of the bytes, as a number. th13 and th14 count tenths: whoever passes 10 as before gets a tenth of what he means.
-#[unsafe(no_mangle)]
-pub extern "C" fn jcc_label(
+pub fn jcc_label(
     recogniser: u32,
     offset: u32,
     th0: f64,

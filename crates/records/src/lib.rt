@@ -1,7 +1,5 @@
-// The plain call over a lent slice of bar records, and its export for a host program. All is proved, nothing is assumed, and no
-// public function has a `requires`: each contract is an equation with the definition of recognisers' plain call, for every input.
-// The borrow checker doesn't cover a slice of structs, so that what takes one is proved by a walk by hand: it is kept thin, and the
-// work is done on plain values.
+// The plain call over a lent slice of bar records. All is proved, nothing is assumed, and no public function has a `requires`: each
+// contract is an equation with the definition of recognisers' plain call, for every input.
 #![tactic(auto)]
 
 ghost use Rattle.std.specs.Prelude.{◌≡◌, true, ◌+◌, ◌-◌, ◌≤◌, length, take, drop};
@@ -111,8 +109,7 @@ pub fn recognise_bars(k: u32, di: u32, t: Thresholds, bars: &[Bar]) -> Answer
 }
 
 // The plain call as a number, as recognisers::jcc_label, which is lent bytes. th13 and th14 count tenths.
-#[unsafe(no_mangle)]
-pub extern "C" fn jcc_label_bars(
+pub fn jcc_label_bars(
     recogniser: u32,
     offset: u32,
     th0: f64,

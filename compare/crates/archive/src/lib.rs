@@ -1,4 +1,4 @@
-//! For build scripts: links a static library that `rt staticlib` wrote.
+//! For build scripts: links a static library that `bin/staticlib` wrote.
 
 use std::env;
 use std::path::Path;

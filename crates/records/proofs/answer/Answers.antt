@@ -1,6 +1,5 @@
 -- A refusal is the answer alone; otherwise it is the pair. Assumes nothing.
 use mathlib.Core.Path.{◌∙◌, sym}
-use borrow.Author.Rules.{rules}
 use Rattle.records.proofs.answer.Goals as goal
 
 pub returns-in-Denied : goal.returns-in-Denied

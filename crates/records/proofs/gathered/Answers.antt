@@ -1,6 +1,5 @@
 -- One bar more in a turn. Assumes nothing.
-use Rattle.std.proofs.Common.{◌≡◌, ◌+◌, ◌*◌, ◌≤◌, ◌<◌, length, take, drop, ap, ◌∙◌, arith, rules}
-use Rattle.recognisers.specs.Number.{reach_bars}
+use Rattle.std.proofs.Common.{◌+◌, ◌*◌, ◌≤◌, ◌<◌, length, ap, ◌∙◌, arith, rules}
 use Rattle.records.specs.declared.Window.{Window}
 use Rattle.records.specs.HeldSteps.{window_bars}
 use Rattle.records.proofs.HeldLaws.{no-bars, next-bar}

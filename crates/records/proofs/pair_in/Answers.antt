@@ -2,8 +2,7 @@
 use Prim.Native.Nat.{◌*◌}
 use mathlib.Core.Path.{◌≡◌}
 use native.Mathlib.Omega.{arith}
-use borrow.Author.Rules.{rules}
-use lib.ListN.{length, length-map, length-take}
+use lib.ListN.{length, length-take}
 use Rattle.recognisers.specs.Number.{reach_bars}
 use Rattle.records.specs.HeldSteps.{window_bars}
 use Rattle.records.proofs.pair_in.Goals as goal

@@ -16,7 +16,7 @@ returns c =
       c.verdict_number.ensures ∙ ap (λ (o : Tallied). verdict_number o.verdict) one,
       sheet-is _ _ _ _ _ same-box same-tally _ c.feed_parts-fed.ensures.1,
       elim c.match-verdict.branch [
-        in-Accepted w ↦ numbers-accepted _ _ one _ w.in-Accepted.is _ (w.numbers-is ∙ w.put.ensures)
+        | in-Accepted w ↦ numbers-accepted _ _ one _ w.in-Accepted.is _ (w.numbers-is ∙ w.put.ensures)
         | in_default w ↦ w.numbers-is ∙ numbers-refused _ _ one _ _ w.in_default.is
       ],
     )

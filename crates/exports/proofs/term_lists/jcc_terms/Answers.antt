@@ -13,10 +13,10 @@ returns c =
     let is = making _ _ _ _ args.minutes _ c.make-made.ensures.answer c.new-t.ensures c.hours_of.ensures in
     let number = c.verdict_number.ensures ∙ ap (λ (t : Taken). verdict_number t.verdict) is in
     elim c.match-verdict.branch [
-      in-Accepted w ↦
-        let left = making-accepted _ _ is args.prices.now args.stamps.now args.sizes.now args.sheet.now args.answers.now w.in-Accepted.is _ _ (w.sheet-is ∙ w.make_calls.ensures.0) (w.answers-is ∙ w.make_calls.ensures.1) in
-        (number, left.0, left.1)
+      | in-Accepted w ↦
+          let left = making-accepted _ _ is args.prices.now args.stamps.now args.sizes.now args.sheet.now args.answers.now w.in-Accepted.is _ _ (w.sheet-is ∙ w.make_calls.ensures.0) (w.answers-is ∙ w.make_calls.ensures.1) in
+          (number, left.0, left.1)
       | in_default w ↦
-        let left = making-refused _ _ is args.prices.now args.stamps.now args.sizes.now args.sheet.now args.answers.now _ w.in_default.is in
-        (number, w.sheet-is ∙ left.0, w.answers-is ∙ left.1)
+          let left = making-refused _ _ is args.prices.now args.stamps.now args.sizes.now args.sheet.now args.answers.now _ w.in_default.is in
+          (number, w.sheet-is ∙ left.0, w.answers-is ∙ left.1)
     ]

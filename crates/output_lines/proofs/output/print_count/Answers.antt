@@ -1,7 +1,6 @@
 -- Three fields, each behind the one before, where there is room. Assumes nothing.
 use mathlib.Core.List.{◌++◌}
 use native.Mathlib.Omega.{arith}
-use borrow.Author.Rules.{rules}
 use Rattle.label_texts.specs.LabelText.{bytes_of}
 use Rattle.input_lines.specs.Lines.{line_feed, comma}
 use Rattle.output_lines.specs.Output.{numeral, field, longest_count, count_line}

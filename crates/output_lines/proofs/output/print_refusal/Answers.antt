@@ -1,7 +1,6 @@
 -- Where there is room: nothing; the refusal; or the place behind the refusal and its comma. Assumes nothing.
 use mathlib.Core.Path.{sym}
 use native.Mathlib.Omega.{arith}
-use borrow.Author.Rules.{rules}
 use Rattle.answers.specs.declared.refusals.Refusal.TheVariants.{BadPrice}
 use Rattle.measures.proofs.Overlay.{overlay-none}
 use Rattle.input_lines.specs.Lines.{line_feed, comma}

@@ -1,13 +1,11 @@
 -- The loop's invariant: with the lines that remain written from the place on, all lines are written. Assumes nothing.
-use Prim.Native.Nat.{◌+◌, ◌-◌, ◌*◌, ◌≤◌}
+use Prim.Native.Nat.{◌+◌, ◌*◌}
 use mathlib.Core.Path.{◌≡◌, refl, sym, ◌∙◌}
 use native.Mathlib.Omega.{arith}
-use borrow.Author.Rules.{rules}
 use lib.ListN.{length, get_or, drop, length-append}
-use Rattle.measures.specs.Bar.{overlay}
 use Rattle.measures.proofs.Overlay.{overlay-none}
-use Rattle.recognisers.specs.Number.{recognisers, row_bytes}
-use Rattle.output_lines.specs.Output.{pair_line, row_lines, longest_row, line_room, Written}
+use Rattle.recognisers.specs.Number.{row_bytes}
+use Rattle.output_lines.specs.Output.{pair_line, row_lines, line_room}
 use Rattle.output_lines.proofs.OutputLaws.{written_on, pair-most, rows-most, rows_end, rows_next, printed, unprinted}
 use Rattle.output_lines.proofs.output.print_rows.Goals as goal
 

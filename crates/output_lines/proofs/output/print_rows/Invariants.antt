@@ -1,13 +1,9 @@
 use Prim.Native.Nat.{◌+◌, ◌-◌, ◌*◌, ◌≤◌}
-use mathlib.Core.Path.{◌≡◌, refl, sym, ◌∙◌}
-use native.Mathlib.Omega.{arith}
-use borrow.Author.Rules.{rules}
-use lib.ListN.{length, get_or, drop, length-append}
+use mathlib.Core.Path.{◌≡◌}
+use lib.ListN.{length, drop}
 use Rattle.measures.specs.Bar.{overlay}
-use Rattle.measures.proofs.Overlay.{overlay-none}
-use Rattle.recognisers.specs.Number.{recognisers, row_bytes}
-use Rattle.output_lines.specs.Output.{pair_line, row_lines, longest_row, line_room, Written}
-use Rattle.output_lines.proofs.OutputLaws.{written_on, pair-most, rows-most, rows_end, rows_next, printed, unprinted}
+use Rattle.recognisers.specs.Number.{recognisers}
+use Rattle.output_lines.specs.Output.{row_lines, longest_row, Written}
 use Rattle.output_lines.proofs.output.print_rows.Given as goal
 
 abbrev pub invariant-loop-k : goal.invariant-loop-k

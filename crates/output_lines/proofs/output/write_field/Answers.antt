@@ -1,12 +1,10 @@
 -- The loop's invariant: the bytes passed stand from the place on. Assumes nothing.
-use Prim.Native.Nat.{◌-◌, ◌≤◌}
 use mathlib.Core.List.{[], ◌∷◌}
-use mathlib.Core.Path.{◌≡◌, refl, sym}
+use mathlib.Core.Path.{refl, sym}
 use native.Mathlib.Omega.{arith}
 use borrow.Author.Rules.{rules}
-use lib.ListN.{length, take, length-set, length-append}
+use lib.ListN.{length-set, length-append}
 use lib.Seq.{take_all}
-use Rattle.measures.specs.Bar.{overlay}
 use Rattle.measures.proofs.Overlay.{overlay-none, overlay-next, overlay-copy}
 use Rattle.output_lines.proofs.output.write_field.Goals as goal
 

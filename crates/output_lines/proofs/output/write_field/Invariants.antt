@@ -1,12 +1,7 @@
 use Prim.Native.Nat.{◌-◌, ◌≤◌}
-use mathlib.Core.List.{[], ◌∷◌}
-use mathlib.Core.Path.{◌≡◌, refl, sym}
-use native.Mathlib.Omega.{arith}
-use borrow.Author.Rules.{rules}
-use lib.ListN.{length, take, length-set, length-append}
-use lib.Seq.{take_all}
+use mathlib.Core.Path.{◌≡◌}
+use lib.ListN.{length, take}
 use Rattle.measures.specs.Bar.{overlay}
-use Rattle.measures.proofs.Overlay.{overlay-none, overlay-next, overlay-copy}
 use Rattle.output_lines.proofs.output.write_field.Given as goal
 
 abbrev pub invariant-loop-i : goal.invariant-loop-i

@@ -1,6 +1,5 @@
 -- The bytes that count are the label's. Assumes nothing.
 use native.Mathlib.Omega.{arith}
-use borrow.Author.Rules.{rules}
 use Rattle.label_texts.proofs.LabelLaws.{short, text-len, text-length, text-bytes}
 use Rattle.output_lines.proofs.output.write_label.Goals as goal
 

@@ -1,7 +1,6 @@
 -- The digits that io counts are the numeral. Assumes nothing.
 use mathlib.Core.Path.{◌∙◌}
 use native.Mathlib.Omega.{arith}
-use borrow.Author.Rules.{rules}
 use Rattle.output_lines.proofs.NumeralLaws.{fewest-numeral, numeral-short}
 use Rattle.output_lines.proofs.output.write_number.Goals as goal
 

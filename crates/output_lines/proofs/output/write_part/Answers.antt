@@ -1,7 +1,6 @@
 -- Three fields, each behind the one before. Assumes nothing.
 use mathlib.Core.List.{◌++◌}
 use native.Mathlib.Omega.{arith}
-use borrow.Author.Rules.{rules}
 use Rattle.recognisers.specs.Refusal.{refusal_number}
 use Rattle.input_lines.specs.Lines.{comma}
 use Rattle.output_lines.specs.Output.{numeral, field, refused_word, refusal_part}

@@ -1,6 +1,5 @@
 -- A refusal is the answer alone; otherwise the judged pair is that of the history. Assumes nothing.
 use mathlib.Core.Path.{◌∙◌, sym}
-use borrow.Author.Rules.{rules}
 use Rattle.measures.specs.Bar.{bars_of}
 use Rattle.recognisers.specs.Call.{recognise_of, plain_answer}
 use Rattle.recognisers.proofs.AnswerLaws.{plain-values}

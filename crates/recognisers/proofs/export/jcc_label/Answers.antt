@@ -1,6 +1,5 @@
 -- The number of the plain call's answer. Assumes nothing.
 use mathlib.Core.Path.{◌∙◌, sym}
-use borrow.Author.Rules.{rules}
 use Rattle.recognisers.specs.Call.{plain_answer}
 use Rattle.recognisers.specs.Export.{export_of}
 use Rattle.recognisers.proofs.ByteLaws.{length-history}

@@ -1,5 +1,4 @@
 -- `of_bits` meets its contract. The test is the library's own of a NaN's pattern (`nan_bits_above`). Assumes nothing.
-use borrow.Author.Rules.{rules}
 use borrow.Author.Tests.{lt-ltb, le-ltb}
 use mathlib.Core.Path.{sym, ◌∙◌}
 use lib.Ieee.{binary64}

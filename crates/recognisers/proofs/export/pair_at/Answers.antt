@@ -1,6 +1,5 @@
 -- The windows are those of the history; a recogniser without a gate is handed an empty one. Assumes nothing.
 use native.Mathlib.Omega.{arith}
-use borrow.Author.Rules.{rules}
 use lib.ListN.{length-take}
 use Rattle.measures.specs.Bar.{bars_of}
 use Rattle.measures.specs.Window.{window_of}

@@ -1,5 +1,4 @@
 -- `price_at` meets its contract. Assumes nothing.
-use borrow.Author.Rules.{rules}
 use mathlib.Core.Path.{ap, sym, ◌∙◌}
 use Rattle.recognisers.proofs.ByteLaws.{word-at}
 use lib.Ieee.{binary64, of_bits}

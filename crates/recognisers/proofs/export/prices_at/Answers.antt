@@ -1,9 +1,9 @@
 -- `prices_at` meets its contract. The invariant: the first i places hold the first i prices. Assumes nothing.
-use Prim.Native.Nat.{◌≤◌, ◌<◌, ◌-◌}
+use Prim.Native.Nat.{◌<◌}
 use mathlib.Core.Path.{◌≡◌, refl}
 use native.Mathlib.Numerals.{add-one}
 use native.Mathlib.Omega.{arith}
-use lib.ListN.{length, take, length-set}
+use lib.ListN.{length, length-set}
 use lib.Seq.{take-suc-set}
 use Rattle.recognisers.specs.Export.{prices_at}
 use Rattle.recognisers.proofs.ByteLaws.{prices-more}

@@ -1,11 +1,7 @@
-use Prim.Native.Nat.{◌≤◌, ◌<◌, ◌-◌}
-use mathlib.Core.Path.{◌≡◌, refl}
-use native.Mathlib.Numerals.{add-one}
-use native.Mathlib.Omega.{arith}
-use lib.ListN.{length, take, length-set}
-use lib.Seq.{take-suc-set}
+use Prim.Native.Nat.{◌≤◌, ◌-◌}
+use mathlib.Core.Path.{◌≡◌}
+use lib.ListN.{length, take}
 use Rattle.recognisers.specs.Export.{prices_at}
-use Rattle.recognisers.proofs.ByteLaws.{prices-more}
 use Rattle.recognisers.proofs.export.prices_at.Given as goal
 
 abbrev pub invariant-loop-i : goal.invariant-loop-i

@@ -1,6 +1,5 @@
 -- By the last stamp. Assumes nothing.
 use Rattle.term_events.specs.EventSteps.{end_after}
-use borrow.Author.Rules.{rules}
 use Rattle.term_events.proofs.events.end_after.Goals as goal
 
 pub returns-in-Never : goal.returns-in-Never

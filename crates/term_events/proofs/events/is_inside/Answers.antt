@@ -1,6 +1,5 @@
 -- The code is the definition. Assumes nothing.
 use borrow.Author.Tests.{lt-ltb, le-ltb}
-use borrow.Author.Rules.{rules}
 use Rattle.term_events.proofs.events.is_inside.Goals as goal
 
 pub returns-then-stamp-end : goal.returns-then-stamp-end

@@ -1,6 +1,5 @@
 -- The code is the definition. Assumes nothing.
 use Rattle.term_events.specs.Events.{joined_bar}
-use borrow.Author.Rules.{rules}
 use Rattle.term_events.proofs.events.join.Goals as goal
 
 pub returns : goal.returns

@@ -1,18 +1,8 @@
-use borrow.Author.Rules.{rules}
-use mathlib.Core.Path.{◌≡◌, refl, ap, sym, ◌∙◌}
-use mathlib.Core.Bool.{cond, ◌&&◌}
-use native.Mathlib.Omega.{arith}
-use mathlib.Core.List.{List}
-use Prim.Native.Nat.{◌+◌, ◌-◌, ◌/◌, ◌≤◌}
-use lib.Dec.{eqb}
-use lib.Ieee.{Float}
-use lib.ListN.{length, get_or, drop}
+use mathlib.Core.Path.{◌≡◌}
+use Prim.Native.Nat.{◌-◌, ◌≤◌}
+use lib.ListN.{length, drop}
 use Rattle.measures.specs.Bar.{bars_of}
-use Rattle.term_events.specs.declared.events.Passed.{Passed}
-use Rattle.term_events.specs.Events.{open_bars}
-use Rattle.term_events.specs.EventSteps.{end_after, next_end, some_in, put_ended, passed_with, pass_of}
-use Rattle.term_events.proofs.EventLaws.{few-in}
-use Rattle.term_events.proofs.StepLaws.{pass-next, pass-past}
+use Rattle.term_events.specs.EventSteps.{end_after, pass_of}
 use Rattle.term_events.proofs.events.pass.Given as goal
 
 abbrev pub invariant-loop-k : goal.invariant-loop-k

@@ -1,6 +1,5 @@
 -- No bar, or the prices of one. Assumes nothing.
 use mathlib.Core.Path.{◌∙◌}
-use borrow.Author.Rules.{rules}
 use Rattle.term_events.proofs.events.put_ended.Goals as goal
 
 pub returns-in-Nothing : goal.returns-in-Nothing

@@ -1,6 +1,5 @@
 -- By the open bar, and whether the bar is of its term. Assumes nothing.
 use borrow.Author.Tests.{lt-ltb, le-ltb}
-use borrow.Author.Rules.{rules}
 use Rattle.term_events.proofs.events.step_by.Goals as goal
 
 pub returns-then-stamp-end : goal.returns-then-stamp-end

@@ -2,7 +2,6 @@
 use mathlib.Core.Path.{◌∙◌}
 use Rattle.recognisers.specs.Refusal.{first_true, next_after, feed_tried, checked_tried}
 use Rattle.term_events.specs.Verdicts.{close_tried}
-use borrow.Author.Rules.{rules}
 use Rattle.term_events.proofs.verdicts.close_verdict.Goals as goal
 
 pub returns : goal.returns

@@ -1,6 +1,5 @@
 -- By the last stamp. Assumes nothing.
 use Rattle.term_events.specs.Verdicts.{above}
-use borrow.Author.Rules.{rules}
 use Rattle.term_events.proofs.verdicts.is_above.Goals as goal
 
 pub returns-in-Never : goal.returns-in-Never

@@ -1,6 +1,5 @@
 -- The code is the definition. Assumes nothing.
 use Rattle.term_events.specs.Verdicts.{valid_layer}
-use borrow.Author.Rules.{rules}
 use Rattle.term_events.proofs.verdicts.layer_valid.Goals as goal
 
 pub returns : goal.returns

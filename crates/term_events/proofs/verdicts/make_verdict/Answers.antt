@@ -1,9 +1,7 @@
 -- The tests are those of the definition, in its order. Assumes nothing.
 use mathlib.Core.Path.{◌∙◌, sym}
-use borrow.Author.Tests.{not-true, not-false}
 use Rattle.recognisers.specs.Refusal.{first_true}
 use Rattle.term_events.specs.Verdicts.{make_verdict}
-use borrow.Author.Rules.{rules}
 use Rattle.term_events.proofs.verdicts.make_verdict.Goals as goal
 
 pub returns-then-not-valid : goal.returns-then-not-valid

@@ -2,7 +2,6 @@
 use mathlib.Core.Path.{◌∙◌, sym}
 use Rattle.term_events.proofs.VerdictLaws.{run-checked, checked-layer}
 use Rattle.term_events.proofs.StepLaws.{layer-end}
-use borrow.Author.Rules.{rules}
 use Rattle.term_events.proofs.verdicts.run_verdict.Goals as goal
 
 pub stamps_verdict-requires : goal.stamps_verdict-requires

@@ -1,6 +1,5 @@
 -- By the last stamp and the open bar. Assumes nothing.
 use Rattle.term_events.specs.Verdicts.{sound_carried}
-use borrow.Author.Rules.{rules}
 use Rattle.term_events.proofs.verdicts.sound.Goals as goal
 
 pub returns-in-At : goal.returns-in-At

@@ -1,16 +1,9 @@
-use borrow.Author.Rules.{rules}
-use mathlib.Core.Path.{◌≡◌, refl, sym, ◌∙◌}
-use mathlib.Core.Bool.{true}
+use mathlib.Core.Path.{◌≡◌}
 use Prim.Native.Nat.{◌-◌, ◌≤◌}
-use borrow.Author.Tests.{not-true, not-false}
-use lib.ListN.{length, get_or, drop}
+use lib.ListN.{length, drop}
 use Rattle.recognisers.specs.Refusal.{first_true}
-use Rattle.term_events.specs.Verdicts.{above, stamps_tried}
-use Rattle.trading_hours.specs.Hours.{in_hours}
-use Rattle.trading_hours.specs.TermRule.{end_of}
-use Rattle.term_events.specs.EventSteps.{EndKnown, inside_by, next_end}
-use Rattle.term_events.proofs.StampLaws.{stamps-late, stamps-outside, stamps-next, stamps-past}
-use Rattle.term_events.proofs.StepLaws.{end-next, inside_is, next-end-is}
+use Rattle.term_events.specs.Verdicts.{stamps_tried}
+use Rattle.term_events.specs.EventSteps.{EndKnown}
 use Rattle.term_events.proofs.verdicts.stamps_verdict.Given as goal
 
 abbrev pub invariant-loop-i : goal.invariant-loop-i

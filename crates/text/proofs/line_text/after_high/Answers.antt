@@ -1,5 +1,4 @@
 -- A fourth comma makes five fields or more; without it there are four. Assumes nothing.
-use borrow.Author.Rules.{rules}
 use Rattle.input_lines.specs.Lines.{comma}
 use Rattle.input_lines.proofs.LineLaws.{pieces-some, pieces_whole, pieces-cut}
 use Rattle.text.proofs.LineTextLaws.{too_many}

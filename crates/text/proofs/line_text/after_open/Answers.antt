@@ -1,6 +1,5 @@
 -- A comma ends a field; without one there are too few. Assumes nothing.
 use native.Mathlib.Omega.{arith}
-use borrow.Author.Rules.{rules}
 use lib.ListN.{length-take}
 use Rattle.recognisers.specs.Refusal.{first_true}
 use Rattle.input_lines.specs.Lines.{comma}

@@ -1,5 +1,4 @@
 -- Each price in its turn. Assumes nothing.
-use borrow.Author.Rules.{rules}
 use Rattle.recognisers.specs.Refusal.{first_true}
 use Rattle.text.specs.LineText.{all_prices, prices_before, line_verdict, said_of}
 use Rattle.text.proofs.line_text.four.Goals as goal

@@ -1,5 +1,4 @@
 -- Each answer's verdict. Assumes nothing.
-use borrow.Author.Rules.{rules}
 use Rattle.text.proofs.line_text.line_verdict.Goals as goal
 
 pub returns-in-BadShape : goal.returns-in-BadShape

@@ -1,5 +1,4 @@
 -- Four prices, read from left to right. Assumes nothing.
-use borrow.Author.Rules.{rules}
 use Rattle.text.specs.LineText.{fields_line}
 use Rattle.text.proofs.line_text.prices.Goals as goal
 

@@ -1,6 +1,5 @@
 -- A line of at most 80 bytes is what its fields say. Assumes nothing.
 use native.Mathlib.Omega.{arith}
-use borrow.Author.Rules.{rules}
 use lib.ListN.{length-take}
 use Rattle.recognisers.specs.Refusal.{first_true}
 use Rattle.text.specs.declared.line_text.Line.TheVariants.{BadShape}

@@ -2,8 +2,7 @@
 use Prim.Native.Nat.{suc}
 use mathlib.Core.Path.{◌≡◌, ap, ◌∙◌}
 use native.Mathlib.Omega.{arith}
-use borrow.Author.Rules.{rules}
-use lib.ListN.{length, length-map, length-take}
+use lib.ListN.{length, length-take}
 use Rattle.measures.proofs.RunLaws.{take-least}
 use Rattle.recognisers.specs.Number.{longest_line}
 use Rattle.input_lines.specs.Lines.{content}
