@@ -2,8 +2,7 @@
 use Prim.Native.Nat.{◌≤◌}
 use mathlib.Core.Path.{◌≡◌, ◌∙◌, sym}
 use native.Mathlib.Omega.{arith}
-use borrow.Author.Rules.{rules}
-use lib.ListN.{length, length-take, length-map}
+use lib.ListN.{length, length-take}
 use Rattle.recognisers.specs.Number.{places}
 use Rattle.measures.specs.Bar.{bars_of, overlay}
 use Rattle.bar_box.specs.Sheet.{rows_of}

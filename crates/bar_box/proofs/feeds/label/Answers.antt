@@ -9,7 +9,6 @@ use Rattle.measures.specs.Bar.{bars_of}
 use Rattle.measures.proofs.RunLaws.{length-bars}
 use Rattle.bar_box.specs.Sheet.{before}
 use Rattle.bar_box.proofs.SeamLaws.{run-seam, feed-sheet}
-use borrow.Author.Rules.{rules}
 use Rattle.bar_box.proofs.feeds.label.Goals as goal
 
 pub put_prices-requires : goal.put_prices-requires

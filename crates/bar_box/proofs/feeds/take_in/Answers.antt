@@ -4,9 +4,9 @@ use Prim.Native.Nat.{ℕ, ◌+◌, ◌-◌, ◌≤◌, ◌<◌}
 use mathlib.Core.Path.{◌≡◌, refl, sym, ap, ◌∙◌}
 use native.Mathlib.Omega.{arith}
 use borrow.Author.Rules.{rules}
-use lib.ListN.{length, get_or, take, drop, set, length-set, length-drop, length-map}
+use lib.ListN.{length, get_or, drop, set, length-set, length-drop, length-map}
 use Rattle.recognisers.specs.Number.{places}
-use Rattle.measures.specs.Bar.{bars_of, overlay, prices_of}
+use Rattle.measures.specs.Bar.{bars_of, prices_of}
 use Rattle.bar_box.specs.Box.{numbered, bars_in}
 use Rattle.measures.proofs.Overlay.{overlay-none, overlay-copy}
 use Rattle.measures.proofs.PriceLaws.{put_next}
@@ -14,7 +14,7 @@ use Rattle.box_record.specs.declared.boxes.BarBox.{BarBox}
 use Rattle.box_record.proofs.RecordLaws.{no_kept}
 use Rattle.bar_box.proofs.OrdinalLaws.{bar-at, length-numbered, numbered-from}
 use Rattle.bar_box.proofs.SeamLaws.{run-rows}
-use Rattle.bar_box.proofs.PlaceLaws.{with_bars, by_one, shifted, shifted_start, shifted_next, places-taken}
+use Rattle.bar_box.proofs.PlaceLaws.{with_bars, by_one, shifted_start, shifted_next, places-taken}
 use Rattle.bar_box.proofs.feeds.take_in.Goals as goal
 
 pub loop-i-init : goal.loop-i-init

@@ -1,18 +1,10 @@
-use Prim.Native.Nat.{ℕ, ◌+◌, ◌-◌, ◌≤◌, ◌<◌}
-use mathlib.Core.Path.{◌≡◌, refl, sym, ap, ◌∙◌}
-use native.Mathlib.Omega.{arith}
-use borrow.Author.Rules.{rules}
-use lib.ListN.{length, get_or, take, drop, set, length-set, length-drop, length-map}
+use Prim.Native.Nat.{◌-◌, ◌≤◌, ◌<◌}
+use mathlib.Core.Path.{◌≡◌}
+use lib.ListN.{length, take, drop}
 use Rattle.recognisers.specs.Number.{places}
 use Rattle.measures.specs.Bar.{bars_of, overlay, prices_of}
 use Rattle.bar_box.specs.Box.{numbered, bars_in}
-use Rattle.measures.proofs.Overlay.{overlay-none, overlay-copy}
-use Rattle.measures.proofs.PriceLaws.{put_next}
-use Rattle.box_record.specs.declared.boxes.BarBox.{BarBox}
-use Rattle.box_record.proofs.RecordLaws.{no_kept}
-use Rattle.bar_box.proofs.OrdinalLaws.{bar-at, length-numbered, numbered-from}
-use Rattle.bar_box.proofs.SeamLaws.{run-rows}
-use Rattle.bar_box.proofs.PlaceLaws.{with_bars, by_one, shifted, shifted_start, shifted_next, places-taken}
+use Rattle.bar_box.proofs.PlaceLaws.{with_bars, shifted}
 use Rattle.bar_box.proofs.feeds.take_in.Given as goal
 
 abbrev pub invariant-loop-i : goal.invariant-loop-i

@@ -1,5 +1,4 @@
 -- The bar that is lent there, and its ordinal. Assumes nothing.
-use borrow.Author.Rules.{rules}
 use Rattle.bar_box.proofs.runs.numbered_bar.Goals as goal
 
 pub returns : goal.returns

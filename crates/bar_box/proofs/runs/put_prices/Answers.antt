@@ -1,11 +1,9 @@
 -- The loop's invariant: the prices passed stand from the place on. Assumes nothing.
-use Prim.Native.Nat.{◌-◌, ◌≤◌}
 use mathlib.Core.Path.{◌≡◌, refl, sym}
 use native.Mathlib.Omega.{arith}
 use borrow.Author.Rules.{rules}
 use lib.Ieee.{nan}
-use lib.ListN.{length, take, length-set}
-use Rattle.measures.specs.Bar.{overlay}
+use lib.ListN.{length-set}
 use Rattle.measures.proofs.Overlay.{overlay-none, overlay-copy}
 use Rattle.bar_box.proofs.runs.put_prices.Goals as goal
 

@@ -1,11 +1,11 @@
 -- The loop's invariant: the rows of the bars passed stand from the place on. Assumes nothing.
-use Prim.Native.Nat.{◌-◌, ◌≤◌}
-use mathlib.Core.Path.{◌≡◌, refl, sym, ◌∙◌}
+use Prim.Native.Nat.{◌≤◌}
+use mathlib.Core.Path.{refl, sym, ◌∙◌}
 use native.Mathlib.Omega.{arith}
 use borrow.Author.Rules.{rules}
-use lib.ListN.{length, take, drop, length-drop}
+use lib.ListN.{length, drop, length-drop}
 use lib.Seq.{take_all}
-use Rattle.measures.specs.Bar.{bars_of, overlay}
+use Rattle.measures.specs.Bar.{bars_of}
 use Rattle.bar_box.specs.Sheet.{row_of, rows_of}
 use Rattle.measures.proofs.Overlay.{overlay-none}
 use Rattle.bar_box.proofs.RowLaws.{overlay-row}

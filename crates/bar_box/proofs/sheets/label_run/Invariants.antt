@@ -1,13 +1,8 @@
 use Prim.Native.Nat.{◌-◌, ◌≤◌}
-use mathlib.Core.Path.{◌≡◌, refl, sym, ◌∙◌}
-use native.Mathlib.Omega.{arith}
-use borrow.Author.Rules.{rules}
-use lib.ListN.{length, take, drop, length-drop}
-use lib.Seq.{take_all}
+use mathlib.Core.Path.{◌≡◌}
+use lib.ListN.{length, take, drop}
 use Rattle.measures.specs.Bar.{bars_of, overlay}
-use Rattle.bar_box.specs.Sheet.{row_of, rows_of}
-use Rattle.measures.proofs.Overlay.{overlay-none}
-use Rattle.bar_box.proofs.RowLaws.{overlay-row}
+use Rattle.bar_box.specs.Sheet.{rows_of}
 use Rattle.bar_box.proofs.sheets.label_run.Given as goal
 
 abbrev pub invariant-loop-j : goal.invariant-loop-j

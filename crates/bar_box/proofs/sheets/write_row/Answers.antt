@@ -1,14 +1,11 @@
 -- The loop's invariant: the codes of the pairs passed stand from the place on. Assumes nothing.
-use Prim.Native.Nat.{◌+◌, ◌-◌, ◌*◌, ◌≤◌}
 use mathlib.Core.Path.{◌≡◌, refl, sym}
 use native.Mathlib.Omega.{arith}
-use borrow.Author.Rules.{rules}
-use lib.ListN.{length, take, length-set}
+use lib.ListN.{length, length-set}
 use lib.Seq.{take_all}
 use Rattle.recognisers.specs.Label.{pair_a}
 use Rattle.recognisers.specs.Number.{recognisers}
 use Rattle.recognisers.specs.Table.{codes_of}
-use Rattle.measures.specs.Bar.{overlay}
 use Rattle.measures.proofs.Overlay.{overlay-none}
 use Rattle.bar_box.proofs.RowLaws.{overlay-codes}
 use Rattle.bar_box.proofs.sheets.write_row.Goals as goal

@@ -1,15 +1,9 @@
 use Prim.Native.Nat.{◌+◌, ◌-◌, ◌*◌, ◌≤◌}
-use mathlib.Core.Path.{◌≡◌, refl, sym}
-use native.Mathlib.Omega.{arith}
-use borrow.Author.Rules.{rules}
-use lib.ListN.{length, take, length-set}
-use lib.Seq.{take_all}
-use Rattle.recognisers.specs.Label.{pair_a}
+use mathlib.Core.Path.{◌≡◌}
+use lib.ListN.{length, take}
 use Rattle.recognisers.specs.Number.{recognisers}
 use Rattle.recognisers.specs.Table.{codes_of}
 use Rattle.measures.specs.Bar.{overlay}
-use Rattle.measures.proofs.Overlay.{overlay-none}
-use Rattle.bar_box.proofs.RowLaws.{overlay-codes}
 use Rattle.bar_box.proofs.sheets.write_row.Given as goal
 
 abbrev pub invariant-loop-k : goal.invariant-loop-k

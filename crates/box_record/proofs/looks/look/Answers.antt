@@ -10,7 +10,6 @@ use Rattle.answers.specs.declared.refusals.Verdict.{Verdict, TheVariants.Accepte
 use Rattle.answers.specs.declared.Answer.TheVariants.{Labels}
 use Rattle.answers.specs.declared.LookAnswer.{LookAnswer, TheVariants.Judged, TheVariants.Refused}
 use Rattle.box_record.specs.declared.boxes.BarBox.{BarBox}
-use borrow.Author.Rules.{rules}
 use Rattle.box_record.specs.Box.{kept, look_of, look_answer_of}
 use Rattle.box_record.proofs.looks.look.Goals as goal
 

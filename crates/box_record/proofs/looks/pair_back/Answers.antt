@@ -1,5 +1,5 @@
 -- The loop's invariant: the front of the run has the prices of the bars passed, at last those of the kept bars. Assumes nothing.
-use Prim.Native.Nat.{◌-◌, ◌*◌, ◌≤◌}
+use Prim.Native.Nat.{◌*◌}
 use mathlib.Core.Path.{◌≡◌, refl, sym, ◌∙◌}
 use native.Mathlib.Omega.{arith}
 use borrow.Author.Rules.{rules}
@@ -7,7 +7,7 @@ use lib.ListN.{length, take, length-take, length-map, get_or-map}
 use lib.Seq.{length-take-le}
 use Rattle.recognisers.specs.Number.{places}
 use Rattle.box_record.specs.declared.boxes.KeptBar.{KeptBar}
-use Rattle.measures.specs.Bar.{overlay, prices_of}
+use Rattle.measures.specs.Bar.{prices_of}
 use Rattle.box_record.specs.Box.{bars_in}
 use Rattle.measures.proofs.Overlay.{overlay-none}
 use Rattle.measures.proofs.PriceLaws.{put_next, front-bars}

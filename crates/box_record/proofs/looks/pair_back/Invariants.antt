@@ -1,16 +1,9 @@
 use Prim.Native.Nat.{◌-◌, ◌*◌, ◌≤◌}
-use mathlib.Core.Path.{◌≡◌, refl, sym, ◌∙◌}
-use native.Mathlib.Omega.{arith}
-use borrow.Author.Rules.{rules}
-use lib.ListN.{length, take, length-take, length-map, get_or-map}
-use lib.Seq.{length-take-le}
+use mathlib.Core.Path.{◌≡◌}
+use lib.ListN.{length, take}
 use Rattle.recognisers.specs.Number.{places}
-use Rattle.box_record.specs.declared.boxes.KeptBar.{KeptBar}
 use Rattle.measures.specs.Bar.{overlay, prices_of}
 use Rattle.box_record.specs.Box.{bars_in}
-use Rattle.measures.proofs.Overlay.{overlay-none}
-use Rattle.measures.proofs.PriceLaws.{put_next, front-bars}
-use Rattle.box_record.proofs.RecordLaws.{no_kept, map-take, take_same}
 use Rattle.box_record.proofs.looks.pair_back.Given as goal
 
 abbrev pub invariant-loop-i : goal.invariant-loop-i

@@ -1,6 +1,5 @@
 -- The fresh tally adds up, so that feeds that bring it along are those without one. Assumes nothing.
 use mathlib.Core.Path.{◌≡◌, refl, ◌∙◌}
-use borrow.Author.Rules.{rules}
 use lib.ListN.{length}
 use Rattle.measures.specs.Bar.{bars_of, overlay}
 use Rattle.answers.specs.declared.refusals.Verdict.{Verdict, TheVariants.Accepted, TheVariants.Denied}

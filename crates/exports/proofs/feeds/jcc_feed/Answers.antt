@@ -1,6 +1,5 @@
 -- The number of the feeds' verdict. Assumes nothing.
 use mathlib.Core.Path.{◌∙◌}
-use borrow.Author.Rules.{rules}
 use Rattle.exports.proofs.feeds.jcc_feed.Goals as goal
 
 pub returns : goal.returns

@@ -1,6 +1,5 @@
 -- The number of the answer in what the look hands back. Assumes nothing.
 use mathlib.Core.Path.{◌∙◌}
-use borrow.Author.Rules.{rules}
 use Rattle.exports.proofs.feeds.jcc_look.Goals as goal
 
 pub returns : goal.returns

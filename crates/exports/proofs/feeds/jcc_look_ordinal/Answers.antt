@@ -1,6 +1,5 @@
 -- The ordinal in what the look hands back. Assumes nothing.
 use mathlib.Core.Path.{◌∙◌}
-use borrow.Author.Rules.{rules}
 use Rattle.exports.proofs.feeds.jcc_look_ordinal.Goals as goal
 
 pub returns : goal.returns

@@ -1,6 +1,5 @@
 -- A refusal is the answer; otherwise the look is at the box that the feeds leave. Assumes nothing.
 use mathlib.Core.Path.{ap, sym, ◌∙◌}
-use borrow.Author.Rules.{rules}
 use Rattle.box_record.specs.declared.boxes.Outcome.{Outcome}
 use Rattle.bar_box.specs.Box.{look_answer_of}
 use Rattle.exports.specs.Feeds.{look_after}

@@ -1,6 +1,5 @@
 -- The feeds leave what one feed does; a refusal leaves the numbers, otherwise those of its table are written. Assumes nothing.
 use mathlib.Core.Path.{ap, ◌∙◌}
-use borrow.Author.Rules.{rules}
 use Rattle.recognisers.specs.Refusal.{verdict_number}
 use Rattle.bar_box.specs.Box.{fresh_box}
 use Rattle.tallies.specs.declared.feeds.Tallied.{Tallied}

@@ -1,10 +1,8 @@
 -- The loop's invariant: the numbers passed are written. Assumes nothing.
-use Prim.Native.Nat.{◌-◌, ◌≤◌, ◌<◌}
-use mathlib.Core.Path.{◌≡◌, refl, sym, ◌∙◌}
+use Prim.Native.Nat.{◌<◌}
+use mathlib.Core.Path.{refl, sym, ◌∙◌}
 use native.Mathlib.Omega.{arith}
-use borrow.Author.Rules.{rules}
-use lib.ListN.{length, take, length-set}
-use Rattle.measures.specs.Bar.{overlay}
+use lib.ListN.{length, length-set}
 use Rattle.measures.proofs.Overlay.{overlay-none, overlay-copy}
 use Rattle.bar_box.proofs.BoxLaws.{take_same}
 use Rattle.tallies.specs.Count.{cells}

@@ -1,14 +1,8 @@
-use Prim.Native.Nat.{◌-◌, ◌≤◌, ◌<◌}
-use mathlib.Core.Path.{◌≡◌, refl, sym, ◌∙◌}
-use native.Mathlib.Omega.{arith}
-use borrow.Author.Rules.{rules}
-use lib.ListN.{length, take, length-set}
+use Prim.Native.Nat.{◌-◌, ◌≤◌}
+use mathlib.Core.Path.{◌≡◌}
+use lib.ListN.{length, take}
 use Rattle.measures.specs.Bar.{overlay}
-use Rattle.measures.proofs.Overlay.{overlay-none, overlay-copy}
-use Rattle.bar_box.proofs.BoxLaws.{take_same}
-use Rattle.tallies.specs.Count.{cells}
 use Rattle.exports.specs.Tally.{numbers_of}
-use Rattle.exports.proofs.NumberLaws.{length-numbers, number_of}
 use Rattle.exports.proofs.tally.put.Given as goal
 
 abbrev pub invariant-loop-i : goal.invariant-loop-i

@@ -1,15 +1,14 @@
 -- The loop's invariant: the counts passed have their numbers. Assumes nothing.
-use Prim.Native.Nat.{ℕ, ◌+◌, ◌-◌, ◌*◌, ◌≤◌, ◌<◌}
+use Prim.Native.Nat.{ℕ, ◌+◌, ◌*◌, ◌<◌}
 use mathlib.Core.List.{append-nil}
 use mathlib.Core.Path.{◌≡◌, refl, ◌∙◌}
 use native.Mathlib.Nat.{zero-add}
 use native.Mathlib.Omega.{arith}
-use borrow.Author.Rules.{rules}
 use lib.ListN.{length, get_or, replicate, length-replicate, get_or-replicate, drop_of_length-le}
 use lib.Seq.{take_all}
 use Rattle.recognisers.specs.Number.{labels}
 use Rattle.tallies.specs.Tally.{by_place}
-use Rattle.tallies.proofs.PlaceLaws.{changed, changed-next}
+use Rattle.tallies.proofs.PlaceLaws.{changed-next}
 use Rattle.exports.proofs.tally.row_of.Goals as goal
 
 pub loop-c-init : goal.loop-c-init

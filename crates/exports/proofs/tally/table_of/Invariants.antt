@@ -1,17 +1,9 @@
-use Prim.Native.Nat.{ℕ, ◌+◌, ◌-◌, ◌*◌, ◌≤◌, ◌<◌}
-use mathlib.Core.List.{[], append-nil}
-use mathlib.Core.Path.{◌≡◌, ap, ◌∙◌}
-use native.Mathlib.Omega.{arith}
-use borrow.Author.Rules.{rules}
-use lib.ListN.{length, get_or, drop_of_length-le}
-use lib.Seq.{take_all}
+use Prim.Native.Nat.{◌+◌, ◌-◌, ◌*◌, ◌≤◌}
+use mathlib.Core.Path.{◌≡◌}
+use lib.ListN.{get_or}
 use Rattle.recognisers.specs.Number.{recognisers, labels}
-use Rattle.tallies.specs.declared.table.TallyRow.{TallyRow}
-use Rattle.tallies.specs.Tally.{row_of_counts, fresh_tally, by_place, gain_row}
-use Rattle.tallies.proofs.PlaceLaws.{changed, changed-next}
-use Rattle.tallies.proofs.RowLaws.{fresh-shaped}
-use Rattle.exports.specs.Tally.{tally_in}
-use Rattle.exports.proofs.NumberLaws.{fresh-row}
+use Rattle.tallies.specs.Tally.{row_of_counts, fresh_tally, gain_row}
+use Rattle.tallies.proofs.PlaceLaws.{changed}
 use Rattle.exports.proofs.tally.table_of.Given as goal
 
 abbrev pub invariant-loop-k : goal.invariant-loop-k

@@ -1,6 +1,5 @@
 -- A refused making leaves sheet and answers; otherwise the calls are made. Assumes nothing.
 use mathlib.Core.Path.{ap, ◌∙◌}
-use borrow.Author.Rules.{rules}
 use Rattle.recognisers.specs.Refusal.{verdict_number}
 use Rattle.terms.specs.declared.layers.Taken.{Taken}
 use Rattle.exports.proofs.MakingLaws.{making, making-refused, making-accepted}

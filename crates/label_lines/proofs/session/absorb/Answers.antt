@@ -5,17 +5,16 @@ use mathlib.Core.List.{[], ◌++◌, append-nil}
 use mathlib.Core.Path.{◌≡◌, refl, sym, ap, ◌∙◌}
 use native.Mathlib.Omega.{arith}
 use borrow.Author.Rules.{rules}
-use lib.ListN.{length, take, drop, length-map, length-take, length-drop}
+use lib.ListN.{length, take, drop, length-take, length-drop}
 use lib.Seq.{take_all}
 use Rattle.measures.proofs.Overlay.{overlay-none, length-overlay}
-use Rattle.output_lines.specs.Output.{Written}
 use Rattle.output_lines.proofs.OutputLaws.{written_on}
 use Rattle.recognisers.specs.Number.{longest_line}
 use Rattle.input_lines.specs.Lines.{content, kept_line, partial_of}
 use Rattle.input_lines.proofs.LineLaws.{content-partial}
 use Rattle.input_lines.proofs.PartLaws.{to_end}
 use Rattle.label_lines.specs.declared.session.Session.{Session}
-use Rattle.label_lines.specs.Session.{State, state_of, session_of, state_after, prints, used_of}
+use Rattle.label_lines.specs.Session.{State, state_of, state_after, prints, used_of}
 use Rattle.label_lines.proofs.SessionLaws.{goes_on, rest-stays, used_all, turn-leaves, turn-prints, turn-used, state-session, session-state}
 use Rattle.label_lines.proofs.session.absorb.Goals as goal
 

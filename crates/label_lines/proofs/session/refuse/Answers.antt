@@ -1,7 +1,6 @@
 -- The refusal's line, for which there is room. Assumes nothing.
 use mathlib.Core.Path.{refl}
 use native.Mathlib.Omega.{arith}
-use borrow.Author.Rules.{rules}
 use Rattle.output_lines.specs.Output.{longest_refusal}
 use Rattle.output_lines.proofs.OutputLaws.{written}
 use Rattle.label_lines.proofs.session.refuse.Goals as goal

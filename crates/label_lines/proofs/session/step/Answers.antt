@@ -1,6 +1,5 @@
 -- Each answer of the reader is a case of readStep. Assumes nothing.
 use mathlib.Core.Path.{sym, ◌∙◌}
-use borrow.Author.Rules.{rules}
 use Rattle.label_lines.specs.Output.{line_step}
 use Rattle.label_lines.proofs.session.step.Goals as goal
 

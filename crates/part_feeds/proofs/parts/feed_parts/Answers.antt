@@ -1,7 +1,6 @@
 -- A refusal leaves all; otherwise the feeds are made. Assumes nothing.
 use mathlib.Core.Path.{◌≡◌, refl, sym, ◌∙◌}
 use mathlib.Core.Bool.{Bool, true, false, cond}
-use borrow.Author.Rules.{rules}
 use Rattle.tallies.specs.Feed.{lent, tallied_sheet}
 use Rattle.tallies.proofs.FeedLaws.{tallied-refused}
 use Rattle.part_feeds.proofs.parts.feed_parts.Goals as goal

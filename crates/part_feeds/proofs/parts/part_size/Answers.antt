@@ -1,7 +1,6 @@
 -- Past the last size all that are left. Assumes nothing.
 use mathlib.Core.Path.{◌∙◌}
 use native.Mathlib.Omega.{arith}
-use borrow.Author.Rules.{rules}
 use borrow.Author.Tests.{lt-ltb, le-ltb}
 use Rattle.part_feeds.proofs.parts.part_size.Goals as goal
 

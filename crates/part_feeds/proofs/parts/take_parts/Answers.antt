@@ -113,28 +113,28 @@ loop-i-preserved c =
     let fed-now = rows_from args.b (take (passed + n) bars) in
     let same_size = length-written args.b bars args.sheet.now (passed + n) (omega (arith, room, c.count-total.ensures)) in
     elim c.if-counts.branch [
-    then-counts w ↦
-    let table = inv.5 ∙ ap (λ (x : Bool). brought x (rows_from args.b (take passed bars)) args.tally) w.if-counts.true in
-    let next : w.feed-fed.result ≡ record { verdict = Accepted; after = taken_in args.b (take (passed + n) bars); tally = counted fed-now args.tally } = w.feed-fed.ensures.0 ∙ rw (inv.4, table) (next-tallied args.b all args.tally args.prices.now args.sheet.now s e passed n enough inv.3 inv.6 shaped) in
-    let sheet : c.if-counts.sheet ≡ overlay args.sheet.now 0 fed-now = w.sheet-is ∙ rw (w.feed-fed.ensures.1, inv.4, table) (next-tallied-sheet args.b all args.tally args.prices.now args.sheet.now s e passed n enough inv.3 inv.6 shaped) in (
-      omega (arith, c.part_size-n.ensures.1),
-      omega arith,
-      all-fed c.loop-i.i (length args.sizes.now) passed c.count-total.result n _ c.part_size-n.ensures.0 inv.0,
-      ap length sheet ∙ same_size,
-      ap (λ (o : Outcome). o.after) w.out-is ∙ ap (λ (o : Tallied). o.after) next,
-      w.table-is ∙ ap (λ (o : Tallied). o.tally) next ∙ sym (ap (λ (x : Bool). brought x fed-now args.tally) w.if-counts.true),
-      sheet,
-    )
-    | else-counts w ↦
-    let sheet : c.if-counts.sheet ≡ overlay args.sheet.now 0 fed-now = w.sheet-is ∙ rw (w.feed-out.ensures.sheet, inv.4) (next-sheet args.b all args.tally args.prices.now args.sheet.now s e passed n enough inv.3 inv.6) in (
-      omega (arith, c.part_size-n.ensures.1),
-      omega arith,
-      all-fed c.loop-i.i (length args.sizes.now) passed c.count-total.result n _ c.part_size-n.ensures.0 inv.0,
-      ap length sheet ∙ same_size,
-      ap (λ (o : Outcome). o.after) (w.out-is ∙ w.feed-out.ensures.answer) ∙ rw inv.4 (next-box args.b all args.tally args.prices.now args.sheet.now s e passed n enough inv.3 inv.6),
-      w.table-is ∙ inv.5 ∙ ap (λ (x : Bool). brought x (rows_from args.b (take passed bars)) args.tally) w.if-counts.false ∙ sym (ap (λ (x : Bool). brought x fed-now args.tally) w.if-counts.false),
-      sheet,
-    )
+      | then-counts w ↦
+          let table = inv.5 ∙ ap (λ (x : Bool). brought x (rows_from args.b (take passed bars)) args.tally) w.if-counts.true in
+          let next : w.feed-fed.result ≡ record { verdict = Accepted; after = taken_in args.b (take (passed + n) bars); tally = counted fed-now args.tally } = w.feed-fed.ensures.0 ∙ rw (inv.4, table) (next-tallied args.b all args.tally args.prices.now args.sheet.now s e passed n enough inv.3 inv.6 shaped) in
+          let sheet : c.if-counts.sheet ≡ overlay args.sheet.now 0 fed-now = w.sheet-is ∙ rw (w.feed-fed.ensures.1, inv.4, table) (next-tallied-sheet args.b all args.tally args.prices.now args.sheet.now s e passed n enough inv.3 inv.6 shaped) in (
+            omega (arith, c.part_size-n.ensures.1),
+            omega arith,
+            all-fed c.loop-i.i (length args.sizes.now) passed c.count-total.result n _ c.part_size-n.ensures.0 inv.0,
+            ap length sheet ∙ same_size,
+            ap (λ (o : Outcome). o.after) w.out-is ∙ ap (λ (o : Tallied). o.after) next,
+            w.table-is ∙ ap (λ (o : Tallied). o.tally) next ∙ sym (ap (λ (x : Bool). brought x fed-now args.tally) w.if-counts.true),
+            sheet,
+          )
+      | else-counts w ↦
+          let sheet : c.if-counts.sheet ≡ overlay args.sheet.now 0 fed-now = w.sheet-is ∙ rw (w.feed-out.ensures.sheet, inv.4) (next-sheet args.b all args.tally args.prices.now args.sheet.now s e passed n enough inv.3 inv.6) in (
+            omega (arith, c.part_size-n.ensures.1),
+            omega arith,
+            all-fed c.loop-i.i (length args.sizes.now) passed c.count-total.result n _ c.part_size-n.ensures.0 inv.0,
+            ap length sheet ∙ same_size,
+            ap (λ (o : Outcome). o.after) (w.out-is ∙ w.feed-out.ensures.answer) ∙ rw inv.4 (next-box args.b all args.tally args.prices.now args.sheet.now s e passed n enough inv.3 inv.6),
+            w.table-is ∙ inv.5 ∙ ap (λ (x : Bool). brought x (rows_from args.b (take passed bars)) args.tally) w.if-counts.false ∙ sym (ap (λ (x : Bool). brought x fed-now args.tally) w.if-counts.false),
+            sheet,
+          )
     ]
 
 pub returns : goal.returns

@@ -1,15 +1,14 @@
 -- The loop's invariant: the rows passed have gained their numbers. Assumes nothing.
-use Prim.Native.Nat.{ℕ, ◌+◌, ◌-◌, ◌*◌, ◌≤◌, ◌<◌}
+use Prim.Native.Nat.{ℕ, ◌+◌, ◌*◌, ◌<◌}
 use mathlib.Core.List.{[], append-nil}
 use mathlib.Core.Path.{◌≡◌, refl, ap}
 use native.Mathlib.Omega.{arith}
-use borrow.Author.Rules.{rules}
 use lib.ListN.{length, get_or, drop_of_length-le}
 use lib.Seq.{take_all}
 use Rattle.recognisers.specs.Number.{recognisers, labels}
 use Rattle.tallies.specs.declared.table.TallyRow.{TallyRow}
 use Rattle.tallies.specs.Tally.{row_of_counts, by_place, gain_row}
-use Rattle.tallies.proofs.PlaceLaws.{changed, changed-next}
+use Rattle.tallies.proofs.PlaceLaws.{changed-next}
 use Rattle.tallies.proofs.counts.add.Goals as goal
 
 pub loop-k-init : goal.loop-k-init

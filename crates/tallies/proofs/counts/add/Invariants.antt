@@ -1,14 +1,9 @@
-use Prim.Native.Nat.{ℕ, ◌+◌, ◌-◌, ◌*◌, ◌≤◌, ◌<◌}
-use mathlib.Core.List.{[], append-nil}
-use mathlib.Core.Path.{◌≡◌, refl, ap}
-use native.Mathlib.Omega.{arith}
-use borrow.Author.Rules.{rules}
-use lib.ListN.{length, get_or, drop_of_length-le}
-use lib.Seq.{take_all}
+use Prim.Native.Nat.{◌+◌, ◌-◌, ◌*◌, ◌≤◌}
+use mathlib.Core.Path.{◌≡◌}
+use lib.ListN.{length, get_or}
 use Rattle.recognisers.specs.Number.{recognisers, labels}
-use Rattle.tallies.specs.declared.table.TallyRow.{TallyRow}
-use Rattle.tallies.specs.Tally.{row_of_counts, by_place, gain_row}
-use Rattle.tallies.proofs.PlaceLaws.{changed, changed-next}
+use Rattle.tallies.specs.Tally.{row_of_counts, gain_row}
+use Rattle.tallies.proofs.PlaceLaws.{changed}
 use Rattle.tallies.proofs.counts.add.Given as goal
 
 abbrev pub invariant-loop-k : goal.invariant-loop-k

@@ -1,14 +1,13 @@
 -- The loop's invariant: the counts passed have gained their numbers. Assumes nothing.
-use Prim.Native.Nat.{ℕ, ◌+◌, ◌-◌, ◌*◌, ◌≤◌, ◌<◌}
+use Prim.Native.Nat.{ℕ, ◌+◌, ◌*◌, ◌<◌}
 use mathlib.Core.List.{append-nil}
 use mathlib.Core.Path.{◌≡◌, refl}
 use native.Mathlib.Omega.{arith}
-use borrow.Author.Rules.{rules}
-use lib.ListN.{length, get_or, length-map, drop_of_length-le}
+use lib.ListN.{length, get_or, drop_of_length-le}
 use lib.Seq.{take_all}
 use Rattle.recognisers.specs.Number.{labels}
 use Rattle.tallies.specs.Tally.{by_place}
-use Rattle.tallies.proofs.PlaceLaws.{changed, changed-at, changed-next}
+use Rattle.tallies.proofs.PlaceLaws.{changed-at, changed-next}
 use Rattle.tallies.proofs.counts.add_row.Goals as goal
 
 pub loop-c-init : goal.loop-c-init

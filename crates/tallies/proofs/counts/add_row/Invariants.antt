@@ -1,13 +1,8 @@
-use Prim.Native.Nat.{ℕ, ◌+◌, ◌-◌, ◌*◌, ◌≤◌, ◌<◌}
-use mathlib.Core.List.{append-nil}
-use mathlib.Core.Path.{◌≡◌, refl}
-use native.Mathlib.Omega.{arith}
-use borrow.Author.Rules.{rules}
-use lib.ListN.{length, get_or, length-map, drop_of_length-le}
-use lib.Seq.{take_all}
+use Prim.Native.Nat.{◌+◌, ◌-◌, ◌*◌, ◌≤◌}
+use mathlib.Core.Path.{◌≡◌}
+use lib.ListN.{length, get_or}
 use Rattle.recognisers.specs.Number.{labels}
-use Rattle.tallies.specs.Tally.{by_place}
-use Rattle.tallies.proofs.PlaceLaws.{changed, changed-at, changed-next}
+use Rattle.tallies.proofs.PlaceLaws.{changed}
 use Rattle.tallies.proofs.counts.add_row.Given as goal
 
 abbrev pub invariant-loop-c : goal.invariant-loop-c

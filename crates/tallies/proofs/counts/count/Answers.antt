@@ -8,7 +8,6 @@ use Rattle.recognisers.specs.Number.{recognisers, labels, row_bytes}
 use Rattle.tallies.specs.Tally.{counts_of, v1_in, rows_with, counted}
 use Rattle.tallies.proofs.TallyLaws.{cell-total, row-adds, gained-same}
 use Rattle.tallies.proofs.CountLaws.{count_most}
-use borrow.Author.Rules.{rules}
 use Rattle.tallies.proofs.counts.count.Goals as goal
 
 pub add-requires : goal.add-requires

@@ -1,12 +1,8 @@
 -- The loop's invariant: of the recognisers passed the row is counted. Assumes nothing.
-use Prim.Native.Nat.{◌-◌, ◌≤◌}
 use mathlib.Core.Path.{◌≡◌}
 use native.Mathlib.Omega.{arith}
-use borrow.Author.Rules.{rules}
-use lib.ListN.{length}
 use Rattle.recognisers.specs.Number.{recognisers}
-use Rattle.tallies.specs.Count.{cells}
-use Rattle.tallies.proofs.CountLaws.{Passed, none_passed, all-passed, number-most, next-passed}
+use Rattle.tallies.proofs.CountLaws.{none_passed, all-passed, number-most, next-passed}
 use Rattle.tallies.proofs.counts.count_row.Goals as goal
 
 pub loop-k-init : goal.loop-k-init

@@ -1,11 +1,9 @@
 use Prim.Native.Nat.{◌-◌, ◌≤◌}
 use mathlib.Core.Path.{◌≡◌}
-use native.Mathlib.Omega.{arith}
-use borrow.Author.Rules.{rules}
 use lib.ListN.{length}
 use Rattle.recognisers.specs.Number.{recognisers}
 use Rattle.tallies.specs.Count.{cells}
-use Rattle.tallies.proofs.CountLaws.{Passed, none_passed, all-passed, number-most, next-passed}
+use Rattle.tallies.proofs.CountLaws.{Passed}
 use Rattle.tallies.proofs.counts.count_row.Given as goal
 
 abbrev pub invariant-loop-k : goal.invariant-loop-k

@@ -1,11 +1,9 @@
 -- The loop's invariant: the rows passed are counted. Assumes nothing.
-use Prim.Native.Nat.{◌-◌, ◌/◌, ◌≤◌}
+use Prim.Native.Nat.{◌/◌}
 use mathlib.Core.Path.{◌≡◌}
 use native.Mathlib.Omega.{arith}
-use borrow.Author.Rules.{rules}
 use lib.ListN.{length}
 use Rattle.recognisers.specs.Number.{row_bytes}
-use Rattle.tallies.specs.CountSteps.{Counted}
 use Rattle.tallies.proofs.CountLaws.{none-counted}
 use Rattle.tallies.proofs.counts.count_rows.Goals as goal
 

@@ -1,11 +1,5 @@
-use Prim.Native.Nat.{◌-◌, ◌/◌, ◌≤◌}
-use mathlib.Core.Path.{◌≡◌}
-use native.Mathlib.Omega.{arith}
-use borrow.Author.Rules.{rules}
-use lib.ListN.{length}
-use Rattle.recognisers.specs.Number.{row_bytes}
+use Prim.Native.Nat.{◌-◌, ◌≤◌}
 use Rattle.tallies.specs.CountSteps.{Counted}
-use Rattle.tallies.proofs.CountLaws.{none-counted}
 use Rattle.tallies.proofs.counts.count_rows.Given as goal
 
 abbrev pub invariant-loop-i : goal.invariant-loop-i

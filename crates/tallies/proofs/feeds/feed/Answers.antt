@@ -16,7 +16,6 @@ use Rattle.tallies.specs.Tally.{counted}
 use Rattle.tallies.specs.Feed.{lent, tallied_of, tallied_sheet}
 use Rattle.tallies.proofs.RowLaws.{rows-known}
 use Rattle.tallies.proofs.FeedLaws.{accepted-adds, accepted-plain, fed-after, rows_written, tallied-accepted}
-use borrow.Author.Rules.{rules}
 use Rattle.tallies.proofs.feeds.feed.Goals as goal
 
 pub overflow_mul-bytes : goal.overflow_mul-bytes

@@ -2,7 +2,6 @@
 use mathlib.Core.Path.{◌∙◌}
 use Rattle.recognisers.specs.Refusal.{first_true, next_after, feed_tried, checked_tried}
 use Rattle.tallies.specs.Feed.{tally_verdict}
-use borrow.Author.Rules.{rules}
 use Rattle.tallies.proofs.feeds.tally_verdict.Goals as goal
 
 pub returns : goal.returns

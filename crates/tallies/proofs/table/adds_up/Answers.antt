@@ -1,14 +1,12 @@
 -- The loop's invariant: the rows passed add up to n, or one of them doesn't. Assumes nothing.
-use Prim.Native.Nat.{ℕ, ◌-◌, ◌≤◌, ◌<◌}
 use mathlib.Core.List.{[]}
 use mathlib.Core.Path.{◌≡◌, refl, ◌∙◌}
 use native.Mathlib.Nat.{not-suc-le-zero}
 use native.Mathlib.Numerals.{add-one}
 use native.Mathlib.Omega.{arith}
-use borrow.Author.Rules.{rules}
-use lib.ListN.{length, take}
+use lib.ListN.{length}
 use lib.Seq.{take-suc, take_all}
-use Rattle.recognisers.specs.Number.{recognisers, labels}
+use Rattle.recognisers.specs.Number.{labels}
 use Rattle.tallies.specs.Tally.{row_of_counts, counts_of, adds_up}
 use Rattle.tallies.proofs.TallyLaws.{adds-snoc, before-or-last}
 use Rattle.tallies.proofs.table.adds_up.Goals as goal

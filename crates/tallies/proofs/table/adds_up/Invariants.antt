@@ -1,15 +1,8 @@
 use Prim.Native.Nat.{ℕ, ◌-◌, ◌≤◌, ◌<◌}
-use mathlib.Core.List.{[]}
-use mathlib.Core.Path.{◌≡◌, refl, ◌∙◌}
-use native.Mathlib.Nat.{not-suc-le-zero}
-use native.Mathlib.Numerals.{add-one}
-use native.Mathlib.Omega.{arith}
-use borrow.Author.Rules.{rules}
+use mathlib.Core.Path.{◌≡◌}
 use lib.ListN.{length, take}
-use lib.Seq.{take-suc, take_all}
 use Rattle.recognisers.specs.Number.{recognisers, labels}
-use Rattle.tallies.specs.Tally.{row_of_counts, counts_of, adds_up}
-use Rattle.tallies.proofs.TallyLaws.{adds-snoc, before-or-last}
+use Rattle.tallies.specs.Tally.{counts_of, adds_up}
 use Rattle.tallies.proofs.table.adds_up.Given as goal
 
 abbrev pub invariant-loop-k : goal.invariant-loop-k

@@ -1,12 +1,8 @@
 -- The loop's invariant: the sum is that of the counts passed, each below 2 to the power of 32. Assumes nothing.
-use Prim.Native.Nat.{◌-◌, ◌*◌, ◌≤◌}
-use mathlib.Core.Path.{◌≡◌, refl, ◌∙◌}
+use mathlib.Core.Path.{refl, ◌∙◌}
 use native.Mathlib.Numerals.{add-one}
 use native.Mathlib.Omega.{arith}
-use borrow.Author.Rules.{rules}
-use lib.ListN.{length, take, length-map}
 use lib.Seq.{take-suc, take_all}
-use Rattle.recognisers.specs.Number.{labels}
 use Rattle.tallies.specs.Tally.{total_of}
 use Rattle.tallies.proofs.TallyLaws.{total-snoc}
 use Rattle.tallies.proofs.table.total.Goals as goal

@@ -1,13 +1,8 @@
 use Prim.Native.Nat.{◌-◌, ◌*◌, ◌≤◌}
-use mathlib.Core.Path.{◌≡◌, refl, ◌∙◌}
-use native.Mathlib.Numerals.{add-one}
-use native.Mathlib.Omega.{arith}
-use borrow.Author.Rules.{rules}
-use lib.ListN.{length, take, length-map}
-use lib.Seq.{take-suc, take_all}
+use mathlib.Core.Path.{◌≡◌}
+use lib.ListN.{length, take}
 use Rattle.recognisers.specs.Number.{labels}
 use Rattle.tallies.specs.Tally.{total_of}
-use Rattle.tallies.proofs.TallyLaws.{total-snoc}
 use Rattle.tallies.proofs.table.total.Given as goal
 
 abbrev pub invariant-loop-c : goal.invariant-loop-c

@@ -1,7 +1,6 @@
 -- No line, or that of print_count. Assumes nothing.
 use mathlib.Core.Path.{sym}
 use native.Mathlib.Omega.{arith}
-use borrow.Author.Rules.{rules}
 use borrow.Author.Tests.{eq-eqb, ne_eqb}
 use Rattle.measures.proofs.Overlay.{overlay-none}
 use Rattle.output_lines.specs.Output.{longest_count}

@@ -1,13 +1,10 @@
 -- The loop's invariant: the lines of the counts passed stand from the place on. Assumes nothing.
-use Prim.Native.Nat.{◌+◌, ◌-◌, ◌*◌, ◌≤◌}
 use mathlib.Core.Path.{◌≡◌, refl, sym, ◌∙◌}
 use native.Mathlib.Omega.{arith}
-use borrow.Author.Rules.{rules}
-use lib.ListN.{length, get_or, take, length-map}
+use lib.ListN.{length, get_or, take}
 use lib.Seq.{take_all}
 use Rattle.measures.proofs.Overlay.{overlay-none}
 use Rattle.recognisers.specs.Number.{labels}
-use Rattle.output_lines.specs.Output.{longest_count, Written}
 use Rattle.output_lines.proofs.OutputLaws.{written_on}
 use Rattle.tally_lines.specs.Output.{cell_line, cell_lines}
 use Rattle.tally_lines.proofs.OutputLaws.{cell-most, cells-next}

@@ -1,15 +1,9 @@
 use Prim.Native.Nat.{◌+◌, ◌-◌, ◌*◌, ◌≤◌}
-use mathlib.Core.Path.{◌≡◌, refl, sym, ◌∙◌}
-use native.Mathlib.Omega.{arith}
-use borrow.Author.Rules.{rules}
-use lib.ListN.{length, get_or, take, length-map}
-use lib.Seq.{take_all}
-use Rattle.measures.proofs.Overlay.{overlay-none}
+use mathlib.Core.Path.{◌≡◌}
+use lib.ListN.{length, take}
 use Rattle.recognisers.specs.Number.{labels}
 use Rattle.output_lines.specs.Output.{longest_count, Written}
-use Rattle.output_lines.proofs.OutputLaws.{written_on}
-use Rattle.tally_lines.specs.Output.{cell_line, cell_lines}
-use Rattle.tally_lines.proofs.OutputLaws.{cell-most, cells-next}
+use Rattle.tally_lines.specs.Output.{cell_lines}
 use Rattle.tally_lines.proofs.output.write_cells.Given as goal
 
 abbrev pub invariant-loop-c : goal.invariant-loop-c

@@ -1,17 +1,14 @@
 -- The loop's invariant: the lines of the rows passed stand at the front. Assumes nothing.
-use Prim.Native.Nat.{◌-◌, ◌*◌, ◌≤◌}
 use mathlib.Core.List.{[]}
 use mathlib.Core.Path.{◌≡◌, refl, sym, ◌∙◌}
 use native.Mathlib.Omega.{arith}
-use borrow.Author.Rules.{rules}
 use lib.ListN.{length, get_or, take}
 use lib.Seq.{take_all}
 use Rattle.measures.proofs.Overlay.{overlay-none}
 use Rattle.tallies.specs.Tally.{row_of_counts}
 use Rattle.recognisers.specs.Number.{recognisers}
-use Rattle.output_lines.specs.Output.{Written}
 use Rattle.output_lines.proofs.OutputLaws.{written_on}
-use Rattle.tally_lines.specs.Output.{cell_lines, lines_of_tally, row_room}
+use Rattle.tally_lines.specs.Output.{cell_lines, lines_of_tally}
 use Rattle.tally_lines.proofs.OutputLaws.{rows_next}
 use Rattle.tally_lines.proofs.output.write_tally.Goals as goal
 

@@ -2,7 +2,6 @@
 use Prim.Native.Nat.{◌*◌}
 use mathlib.Core.Path.{refl, sym, ◌∙◌}
 use native.Mathlib.Omega.{arith}
-use borrow.Author.Rules.{rules}
 use Rattle.measures.specs.Bar.{prices_of}
 use Rattle.measures.proofs.Overlay.{overlay-none}
 use Rattle.measures.proofs.PriceLaws.{put-room}

@@ -1,16 +1,16 @@
 -- The loop's invariant: the bytes passed are read, their bars stand at the front of the run, and no byte passed means that none is read
 -- yet. Assumes nothing.
-use Prim.Native.Nat.{◌+◌, ◌-◌, ◌*◌, ◌≤◌, ◌<◌}
+use Prim.Native.Nat.{◌+◌, ◌*◌, ◌≤◌}
 use mathlib.Core.Bool.{true}
 use mathlib.Core.List.{[], ◌++◌, append-nil}
 use mathlib.Core.Path.{◌≡◌, refl, sym, ap, ◌∙◌}
 use native.Mathlib.Omega.{arith}
 use borrow.Author.Rules.{rules}
 use lib.ListN.{length, take, drop, length-append, length-drop}
-use Rattle.measures.specs.Bar.{overlay, prices_of}
+use Rattle.measures.specs.Bar.{prices_of}
 use Rattle.measures.proofs.Overlay.{overlay-none, overlay-more}
 use Rattle.measures.proofs.PriceLaws.{length-prices, prices-append}
-use Rattle.input_lines.specs.Lines.{content, kept_line, partial_of}
+use Rattle.input_lines.specs.Lines.{content, kept_line}
 use Rattle.input_lines.proofs.LineLaws.{content-partial}
 use Rattle.input_lines.proofs.PartLaws.{to_end}
 use Rattle.tally_lines.specs.declared.reading.Gathered.{Gathered}

@@ -1,20 +1,12 @@
-use Prim.Native.Nat.{◌+◌, ◌-◌, ◌*◌, ◌≤◌, ◌<◌}
+use Prim.Native.Nat.{◌-◌, ◌≤◌, ◌<◌}
 use mathlib.Core.Bool.{true}
-use mathlib.Core.List.{[], ◌++◌, append-nil}
-use mathlib.Core.Path.{◌≡◌, refl, sym, ap, ◌∙◌}
-use native.Mathlib.Omega.{arith}
-use borrow.Author.Rules.{rules}
-use lib.ListN.{length, take, drop, length-append, length-drop}
+use mathlib.Core.List.{[]}
+use mathlib.Core.Path.{◌≡◌}
+use lib.ListN.{length, take}
 use Rattle.measures.specs.Bar.{overlay, prices_of}
-use Rattle.measures.proofs.Overlay.{overlay-none, overlay-more}
-use Rattle.measures.proofs.PriceLaws.{length-prices, prices-append}
-use Rattle.input_lines.specs.Lines.{content, kept_line, partial_of}
-use Rattle.input_lines.proofs.LineLaws.{content-partial}
-use Rattle.input_lines.proofs.PartLaws.{to_end}
-use Rattle.tally_lines.specs.declared.reading.Gathered.{Gathered}
+use Rattle.input_lines.specs.Lines.{content, partial_of}
 use Rattle.output_lines.specs.Output.{goes_on}
 use Rattle.tally_lines.specs.Session.{read_from}
-use Rattle.tally_lines.proofs.ReadLaws.{read_kept, read-turn, gathered-is, begun_kept}
 use Rattle.tally_lines.proofs.reading.gather.Given as goal
 
 abbrev pub invariant-loop-used : goal.invariant-loop-used

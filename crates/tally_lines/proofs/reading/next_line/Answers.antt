@@ -13,7 +13,6 @@ use Rattle.output_lines.specs.declared.output.Stop.TheVariants.{Going}
 use Rattle.tally_lines.specs.Session.{Read, read_from, line_bars, line_stop}
 use Rattle.tally_lines.proofs.ReadLaws.{read-line, read-rest, bars-few, gathered-is}
 use lib.Seq.{length-take-le}
-use borrow.Author.Rules.{rules}
 use Rattle.tally_lines.proofs.reading.next_line.Goals as goal
 
 pub slice_bounds-extend-end : goal.slice_bounds-extend-end

@@ -1,20 +1,8 @@
-use Prim.Native.Nat.{suc, ◌+◌, ◌-◌, ◌≤◌}
-use mathlib.Core.List.{[], ◌++◌, append-nil}
-use mathlib.Core.Path.{◌≡◌, ap, ◌∙◌}
-use native.Mathlib.Omega.{arith}
-use borrow.Author.Rules.{rules}
-use borrow.Author.Tests.{ltb-true}
-use lib.ListN.{length, take, drop, length-map, length-take, length-drop}
-use lib.Seq.{take_all, take-add}
-use Rattle.recognisers.specs.Number.{longest_line}
-use Rattle.input_lines.specs.Lines.{content, kept_line, partial_of}
-use Rattle.input_lines.proofs.LineLaws.{content-partial}
-use Rattle.input_lines.proofs.PartLaws.{to_end}
-use Rattle.input_lines.proofs.RunLaws.{both}
-use Rattle.tally_lines.specs.declared.session.Session.{Session}
+use Prim.Native.Nat.{◌-◌, ◌≤◌}
+use mathlib.Core.Path.{◌≡◌}
+use lib.ListN.{length, take}
 use Rattle.output_lines.specs.Output.{goes_on}
-use Rattle.tally_lines.specs.Session.{State, state_of, session_of, state_after}
-use Rattle.tally_lines.proofs.SessionLaws.{taken-append, state-session, session-stays, rest-left}
+use Rattle.tally_lines.specs.Session.{state_of, session_of, state_after}
 use Rattle.tally_lines.proofs.session.absorb.Given as goal
 
 abbrev pub invariant-loop-used : goal.invariant-loop-used

@@ -1,7 +1,6 @@
 -- A line that has begun takes its line feed in. Assumes nothing.
 use Rattle.tally_lines.specs.Session.{closed}
 use Rattle.tally_lines.proofs.SessionLaws.{state-session}
-use borrow.Author.Rules.{rules}
 use Rattle.tally_lines.proofs.session.close.Goals as goal
 
 pub returns-then-none : goal.returns-then-none

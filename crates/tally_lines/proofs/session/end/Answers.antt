@@ -4,7 +4,6 @@ use native.Mathlib.Omega.{arith}
 use borrow.Author.Tests.{le-leb, lt-leb}
 use Rattle.measures.proofs.Overlay.{overlay-none}
 use Rattle.tally_lines.specs.Session.{printed}
-use borrow.Author.Rules.{rules}
 use Rattle.tally_lines.proofs.session.end.Goals as goal
 
 pub returns-then-out-ge-ROOM : goal.returns-then-out-ge-ROOM

@@ -2,10 +2,9 @@
 use Prim.Native.Nat.{◌≤◌}
 use mathlib.Core.Path.{◌≡◌, sym, ◌∙◌}
 use native.Mathlib.Omega.{arith}
-use lib.ListN.{length, length-map}
+use lib.ListN.{length}
 use Rattle.measures.specs.Bar.{bars_of}
 use Rattle.tally_lines.proofs.BatchLaws.{batch-fed, none-fed}
-use borrow.Author.Rules.{rules}
 use Rattle.tally_lines.proofs.session.feed_all.Goals as goal
 
 pub returns-then-prices-eq0 : goal.returns-then-prices-eq0

@@ -1,7 +1,6 @@
 -- The tally where no line was refused, else the refusal. Assumes nothing.
 use mathlib.Core.Path.{sym, ◌∙◌}
 use native.Mathlib.Omega.{arith}
-use borrow.Author.Rules.{rules}
 use Rattle.output_lines.specs.Output.{longest_refusal}
 use Rattle.output_lines.proofs.OutputLaws.{written}
 use Rattle.tally_lines.proofs.session.print.Goals as goal

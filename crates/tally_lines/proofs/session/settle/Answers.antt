@@ -1,5 +1,4 @@
 -- By the verdict: the line that has begun stays, or is done with. Assumes nothing.
-use borrow.Author.Rules.{rules}
 use Rattle.tally_lines.proofs.session.settle.Goals as goal
 
 pub returns-in-Denied : goal.returns-in-Denied

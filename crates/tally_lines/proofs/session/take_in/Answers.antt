@@ -11,7 +11,6 @@ use Rattle.input_lines.proofs.LineLaws.{content-partial}
 use Rattle.tally_lines.specs.declared.reading.Gathered.{Gathered}
 use Rattle.tally_lines.specs.Session.{read_from, state_of, session_of}
 use Rattle.tally_lines.proofs.SessionLaws.{taken-by}
-use borrow.Author.Rules.{rules}
 use Rattle.tally_lines.proofs.session.take_in.Goals as goal
 
 pub slice_bounds-feed_all-end : goal.slice_bounds-feed_all-end

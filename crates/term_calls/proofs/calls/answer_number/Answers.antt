@@ -1,5 +1,4 @@
 -- Each arm of the match is a case of the definition. Assumes nothing.
-use borrow.Author.Rules.{rules}
 use Rattle.term_calls.proofs.calls.answer_number.Goals as goal
 
 pub returns-in-Denied : goal.returns-in-Denied

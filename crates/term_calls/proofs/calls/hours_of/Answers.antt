@@ -1,6 +1,5 @@
 -- Window by window. Assumes nothing.
 use Rattle.term_calls.specs.TermCalls.{hours_in}
-use borrow.Author.Rules.{rules}
 use Rattle.term_calls.proofs.calls.hours_of.Goals as goal
 
 pub returns : goal.returns

@@ -1,6 +1,5 @@
 -- A close, or a run of the bars that are left; both on the sheet from a byte on. Assumes nothing.
 use Rattle.term_calls.proofs.CallLaws.{Made, made-close, made-run}
-use borrow.Author.Rules.{rules}
 use Rattle.term_calls.proofs.calls.make_call.Goals as goal
 
 pub returns-then-size-eq0 : goal.returns-then-size-eq0

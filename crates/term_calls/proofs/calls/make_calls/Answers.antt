@@ -1,16 +1,14 @@
 -- The loop's invariant: the sheet and the answers as they stand, and then what the calls that are left make of them. Assumes nothing.
 use Prim.Native.Nat.{ℕ, ◌+◌, ◌-◌, ◌*◌, ◌≤◌}
-use mathlib.Core.Path.{◌≡◌, refl, sym, ◌∙◌}
-use mathlib.Core.List.{List, [], ◌++◌}
+use mathlib.Core.Path.{refl, sym, ◌∙◌}
+use mathlib.Core.List.{List, []}
 use native.Mathlib.Omega.{arith}
 use native.Mathlib.Nat.{sub-zero}
 use borrow.Author.Rules.{rules}
-use lib.ListN.{length, take, drop, drop_of_length-le, take-append-drop}
+use lib.ListN.{length, drop_of_length-le, take-append-drop}
 use lib.Seq.{take_all}
-use Rattle.measures.specs.Bar.{overlay}
 use Rattle.measures.proofs.Overlay.{overlay-none}
 use Rattle.recognisers.specs.Number.{row_bytes, most_bars}
-use Rattle.term_calls.specs.Numbers.{written_to}
 use Rattle.term_calls.specs.TermCalls.{answers_of, sheet_through}
 use Rattle.term_calls.proofs.ListLaws.{overlay-then}
 use Rattle.term_calls.proofs.CallLaws.{rows_at, call_next}

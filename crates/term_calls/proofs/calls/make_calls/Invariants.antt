@@ -1,18 +1,10 @@
-use Prim.Native.Nat.{ℕ, ◌+◌, ◌-◌, ◌*◌, ◌≤◌}
-use mathlib.Core.Path.{◌≡◌, refl, sym, ◌∙◌}
-use mathlib.Core.List.{List, [], ◌++◌}
-use native.Mathlib.Omega.{arith}
-use native.Mathlib.Nat.{sub-zero}
-use borrow.Author.Rules.{rules}
-use lib.ListN.{length, take, drop, drop_of_length-le, take-append-drop}
-use lib.Seq.{take_all}
+use Prim.Native.Nat.{◌-◌, ◌≤◌}
+use mathlib.Core.Path.{◌≡◌}
+use mathlib.Core.List.{◌++◌}
+use lib.ListN.{length, take, drop}
 use Rattle.measures.specs.Bar.{overlay}
-use Rattle.measures.proofs.Overlay.{overlay-none}
-use Rattle.recognisers.specs.Number.{row_bytes, most_bars}
 use Rattle.term_calls.specs.Numbers.{written_to}
 use Rattle.term_calls.specs.TermCalls.{answers_of, sheet_through}
-use Rattle.term_calls.proofs.ListLaws.{overlay-then}
-use Rattle.term_calls.proofs.CallLaws.{rows_at, call_next}
 use Rattle.term_calls.proofs.calls.make_calls.Given as goal
 
 abbrev pub invariant-loop-i : goal.invariant-loop-i

@@ -7,7 +7,6 @@ use lib.ListN.{length, set}
 use lib.Seq.{take_all}
 use Rattle.measures.proofs.Overlay.{overlay-none, overlay-next}
 use Rattle.term_calls.specs.TermCalls.{answer_by}
-use borrow.Author.Rules.{rules}
 use Rattle.term_calls.proofs.calls.put_answer.Goals as goal
 
 pub returns-then-i-answers : goal.returns-then-i-answers

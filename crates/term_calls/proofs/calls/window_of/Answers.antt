@@ -1,5 +1,4 @@
 -- Two numbers to a window. Assumes nothing.
-use borrow.Author.Rules.{rules}
 use Rattle.term_calls.proofs.calls.window_of.Goals as goal
 
 pub returns : goal.returns

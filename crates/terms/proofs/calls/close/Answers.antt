@@ -1,10 +1,9 @@
 -- The term bar that the close ends, by its verdict, is fed. Assumes nothing.
 use mathlib.Core.Path.{◌≡◌, ap, sym, ◌∙◌}
-use lib.ListN.{length, length-map}
+use lib.ListN.{length}
 use Rattle.recognisers.specs.Refusal.{verdict_number}
 use Rattle.recognisers.specs.Number.{places}
 use Rattle.terms.proofs.TakeLaws.{closed_none, closed-one}
-use borrow.Author.Rules.{rules}
 use Rattle.terms.proofs.calls.close.Goals as goal
 
 pub returns-in-Nothing : goal.returns-in-Nothing

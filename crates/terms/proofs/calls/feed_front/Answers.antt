@@ -4,7 +4,6 @@ use native.Mathlib.Omega.{arith}
 use lib.ListN.{length-take}
 use Rattle.box_record.specs.declared.boxes.Outcome.{Outcome}
 use Rattle.terms.proofs.FeedLaws.{front-box, front-sheet}
-use borrow.Author.Rules.{rules}
 use Rattle.terms.proofs.calls.feed_front.Goals as goal
 
 pub slice_bounds-feed-end : goal.slice_bounds-feed-end

@@ -2,7 +2,6 @@
 use mathlib.Core.Path.{◌≡◌, ◌∙◌}
 use mathlib.Core.List.{[], ◌∷◌}
 use Rattle.measures.specs.Bar.{prices_of, put_bar}
-use borrow.Author.Rules.{rules}
 use Rattle.terms.proofs.calls.feed_one.Goals as goal
 
 pub returns : goal.returns

@@ -3,7 +3,6 @@ use mathlib.Core.Path.{ap, sym}
 use Rattle.recognisers.specs.Refusal.{verdict_number}
 use Rattle.box_record.specs.declared.boxes.Outcome.{Outcome}
 use Rattle.terms.proofs.TakeLaws.{made-is}
-use borrow.Author.Rules.{rules}
 use Rattle.terms.proofs.calls.make.Goals as goal
 
 pub returns : goal.returns

@@ -1,12 +1,11 @@
 -- Nothing of a refused run is taken in; of an accepted one first the bars that end no term bar, and then the others. Assumes nothing.
 use mathlib.Core.Path.{◌≡◌, ap, sym, ◌∙◌}
-use lib.ListN.{length, length-map}
+use lib.ListN.{length}
 use Rattle.recognisers.specs.Refusal.{verdict_number}
 use Rattle.recognisers.specs.Number.{places}
 use Rattle.terms.specs.declared.calls.Progress.{Progress}
 use Rattle.terms.specs.Layer.{layer_with, taken}
 use Rattle.terms.proofs.TakeLaws.{Front, front-is}
-use borrow.Author.Rules.{rules}
 use Rattle.terms.proofs.calls.run.Goals as goal
 use Rattle.terms.proofs.calls.run.Goals.{After-pass-front}
 

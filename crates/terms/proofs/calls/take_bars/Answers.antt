@@ -1,17 +1,16 @@
 -- The loop's invariant: the term bars that ended in the bars passed are taken in, and their rows stand on the sheet. Assumes nothing.
-use Prim.Native.Nat.{◌-◌, ◌*◌, ◌≤◌}
+use Prim.Native.Nat.{◌*◌}
 use mathlib.Core.Path.{◌≡◌, refl, sym, ◌∙◌}
 use native.Mathlib.Omega.{arith}
 use borrow.Author.Rules.{rules}
-use lib.ListN.{length, length-map, take, length-append}
-use Rattle.measures.specs.Bar.{bars_of, overlay}
+use lib.ListN.{length, take, length-append}
+use Rattle.measures.specs.Bar.{bars_of}
 use Rattle.measures.proofs.Overlay.{overlay-none}
 use Rattle.recognisers.specs.Number.{places}
 use Rattle.bar_box.specs.Sheet.{rows_of}
-use Rattle.bar_box.specs.Box.{kept, taken_in}
 use Rattle.bar_box.proofs.BoxLaws.{taken_none, taken-append}
 use Rattle.bar_box.proofs.PartLaws.{rows_both}
-use Rattle.terms.proofs.PartLaws.{ended_to, carried_to, PartFits, part-fits, none-ended, none-carried, all-passed}
+use Rattle.terms.proofs.PartLaws.{ended_to, PartFits, part-fits, none-ended, none-carried, all-passed}
 use Rattle.terms.proofs.calls.take_bars.Goals as goal
 use Rattle.terms.proofs.calls.take_bars.Goals.{After-pass-part}
 

@@ -1,16 +1,10 @@
-use Prim.Native.Nat.{◌-◌, ◌*◌, ◌≤◌}
-use mathlib.Core.Path.{◌≡◌, refl, sym, ◌∙◌}
-use native.Mathlib.Omega.{arith}
-use borrow.Author.Rules.{rules}
-use lib.ListN.{length, length-map, take, length-append}
-use Rattle.measures.specs.Bar.{bars_of, overlay}
-use Rattle.measures.proofs.Overlay.{overlay-none}
-use Rattle.recognisers.specs.Number.{places}
+use Prim.Native.Nat.{◌-◌, ◌≤◌}
+use mathlib.Core.Path.{◌≡◌}
+use lib.ListN.{length}
+use Rattle.measures.specs.Bar.{overlay}
 use Rattle.bar_box.specs.Sheet.{rows_of}
 use Rattle.bar_box.specs.Box.{kept, taken_in}
-use Rattle.bar_box.proofs.BoxLaws.{taken_none, taken-append}
-use Rattle.bar_box.proofs.PartLaws.{rows_both}
-use Rattle.terms.proofs.PartLaws.{ended_to, carried_to, PartFits, part-fits, none-ended, none-carried, all-passed}
+use Rattle.terms.proofs.PartLaws.{ended_to, carried_to}
 use Rattle.terms.proofs.calls.take_bars.Given as goal
 
 abbrev pub invariant-loop-done : goal.invariant-loop-done

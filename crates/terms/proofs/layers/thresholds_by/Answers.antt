@@ -1,5 +1,4 @@
 -- By the verdict. Assumes nothing.
-use borrow.Author.Rules.{rules}
 use Rattle.terms.proofs.layers.thresholds_by.Goals as goal
 
 pub returns-in-Accepted : goal.returns-in-Accepted

@@ -1,5 +1,5 @@
 -- `replay::command::has_form` meets its contract. Assumes nothing.
-use Rattle.std.proofs.Common.{rules, eq-eqb, ne_eqb}
+use Rattle.std.proofs.Common.{eq-eqb, ne_eqb}
 use Rattle.test_replay.specs.Command.{has_form}
 use Rattle.test_replay.proofs.command.has_form.Goals as goal
 

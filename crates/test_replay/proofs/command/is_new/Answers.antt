@@ -1,5 +1,5 @@
 -- `replay::command::is_new` meets its contract. Assumes nothing.
-use Rattle.std.proofs.Common.{rules, eq-eqb, ne_eqb}
+use Rattle.std.proofs.Common.{eq-eqb, ne_eqb}
 use Rattle.test_replay.specs.Command.{is_new}
 use Rattle.test_replay.proofs.command.is_new.Goals as goal
 

@@ -1,5 +1,5 @@
 -- `replay::command::parse` meets its contract. Assumes nothing.
-use Rattle.std.proofs.Common.{sym, rules}
+use Rattle.std.proofs.Common.{sym}
 use Rattle.test_replay.specs.Command.{command_of}
 use Rattle.test_replay.proofs.command.parse.Goals as goal
 

@@ -1,7 +1,7 @@
 -- `replay::hex::decode` meets its contract. Assumes nothing.
-use Rattle.std.proofs.Common.{◌+◌, ◌-◌, ◌*◌, ◌<◌, ◌≤◌, get_or, refl, arith, rules}
-use Rattle.test_replay.specs.Hex.{value_of, longest}
-use Rattle.test_replay.proofs.Laws.Hex.{pair, no-high, no-low, Decoding, decoding-more, payload-end, payload-full}
+use Rattle.std.proofs.Common.{◌+◌, ◌*◌, ◌<◌, ◌≤◌, get_or, refl, arith}
+use Rattle.test_replay.specs.Hex.{value_of}
+use Rattle.test_replay.proofs.Laws.Hex.{pair, no-high, no-low, decoding-more, payload-end, payload-full}
 use Rattle.test_replay.proofs.hex.decode.Goals as goal
 
 pub loop-i-init : goal.loop-i-init

@@ -1,5 +1,5 @@
 -- `replay::hex::value` meets its contract. Assumes nothing.
-use Rattle.std.proofs.Common.{arith, rules, le-leb}
+use Rattle.std.proofs.Common.{arith, le-leb}
 use borrow.Author.Tests.{lt-leb}
 use Rattle.test_replay.specs.Hex.{value_of}
 use Rattle.test_replay.proofs.hex.value.Goals as goal

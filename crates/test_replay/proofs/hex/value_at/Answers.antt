@@ -1,5 +1,5 @@
 -- `replay::hex::value_at` meets its contract. Past the end a list reads as 0, which is no digit. Assumes nothing.
-use Rattle.std.proofs.Common.{ℕ, rules}
+use Rattle.std.proofs.Common.{ℕ}
 use lib.ListN.{get_or-eq_default}
 use Rattle.test_replay.specs.Hex.{value_of}
 use Rattle.test_replay.proofs.hex.value_at.Goals as goal

@@ -1,5 +1,5 @@
 -- `replay::number::f64_at` meets its contract. Assumes nothing.
-use Rattle.std.proofs.Common.{ap, ◌∙◌, rules}
+use Rattle.std.proofs.Common.{ap, ◌∙◌}
 use lib.Ieee.{binary64, of_bits}
 use Rattle.test_replay.specs.Number.{f64_at}
 use Rattle.test_replay.proofs.number.f64_at.Goals as goal

@@ -1,5 +1,5 @@
 -- `replay::number::u64_at` meets its contract. Assumes nothing.
-use Rattle.std.proofs.Common.{arith, rules}
+use Rattle.std.proofs.Common.{arith}
 use Rattle.test_replay.proofs.Laws.Number.{u64-at}
 use Rattle.test_replay.proofs.number.u64_at.Goals as goal
 

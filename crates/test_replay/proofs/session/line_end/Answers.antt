@@ -1,5 +1,5 @@
 -- `replay::session::line_end` meets its contract. The invariant: no byte from the first place to i is a line feed. Assumes nothing.
-use Rattle.std.proofs.Common.{◌≡◌, ℕ, ◌-◌, ◌<◌, ◌≤◌, length, get_or, arith, rules, below_more}
+use Rattle.std.proofs.Common.{◌≡◌, ℕ, ◌≤◌, get_or, arith, below_more}
 use Rattle.test_replay.proofs.session.line_end.Goals as goal
 
 pub loop-i-init : goal.loop-i-init

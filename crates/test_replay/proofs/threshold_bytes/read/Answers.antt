@@ -1,6 +1,5 @@
 -- `replay::thresholds::read` meets its contract. Assumes nothing.
 use Rattle.test_replay.specs.Thresholds.{thresholds_of}
-use Rattle.std.proofs.Common.{rules}
 use Rattle.test_replay.proofs.threshold_bytes.read.Goals as goal
 
 pub returns : goal.returns

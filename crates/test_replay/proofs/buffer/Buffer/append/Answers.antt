@@ -1,6 +1,5 @@
 -- `replay::buffer::Buffer::append` meets its contract. The invariant: the first i bytes of s are in their places. Assumes nothing.
-use Rattle.std.proofs.Common.{◌≡◌, ℕ, ◌+◌, ◌-◌, ◌<◌, ◌≤◌, List, ◌++◌, length, take, ap, ◌∙◌, add-one, arith, length-set, rules}
-use lib.ListN.{length-map}
+use Rattle.std.proofs.Common.{◌≡◌, ℕ, ◌+◌, ◌<◌, List, ◌++◌, length, take, ap, ◌∙◌, add-one, arith, length-set}
 use lib.Seq.{paste, paste-zero, paste-suc}
 use Rattle.test_replay.specs.Buffer.{capacity}
 use Rattle.test_replay.proofs.Laws.Lists.{take-pasted}

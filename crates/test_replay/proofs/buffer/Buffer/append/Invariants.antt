@@ -1,8 +1,6 @@
-use Rattle.std.proofs.Common.{◌≡◌, ℕ, ◌+◌, ◌-◌, ◌<◌, ◌≤◌, List, ◌++◌, length, take, ap, ◌∙◌, add-one, arith, length-set, rules}
-use lib.ListN.{length-map}
-use lib.Seq.{paste, paste-zero, paste-suc}
+use Rattle.std.proofs.Common.{◌≡◌, ◌-◌, ◌≤◌, length}
+use lib.Seq.{paste}
 use Rattle.test_replay.specs.Buffer.{capacity}
-use Rattle.test_replay.proofs.Laws.Lists.{take-pasted}
 use Rattle.test_replay.proofs.buffer.Buffer.append.Given as goal
 
 abbrev pub invariant-loop-i : goal.invariant-loop-i

@@ -1,6 +1,5 @@
 -- `replay::buffer::Buffer::size` meets its contract. Assumes nothing.
-use Rattle.std.proofs.Common.{◌≡◌, length, arith, length-take, rules}
-use lib.ListN.{length-map}
+use Rattle.std.proofs.Common.{◌≡◌, length, arith, length-take}
 use Rattle.test_replay.specs.Buffer.{capacity}
 use Rattle.test_replay.proofs.Laws.Lists.{take_min}
 use Rattle.test_replay.proofs.buffer.Buffer.size.Goals as goal

@@ -1,5 +1,5 @@
 -- `replay::output::Output::write` meets its contract. Assumes nothing.
-use Rattle.std.proofs.Common.{ℕ, List, ◌++◌, take, ap, ◌∙◌, arith, rules}
+use Rattle.std.proofs.Common.{ℕ, List, ◌++◌, take, ap, ◌∙◌, arith}
 use Rattle.test_replay.specs.Buffer.{capacity}
 use Rattle.test_replay.proofs.Laws.Output.{both-fit, no_room}
 use Rattle.test_replay.proofs.output.Output.write.Goals as goal

@@ -1,5 +1,4 @@
 -- `replay::output::Output::write_number` meets its contract. Assumes nothing.
-use Rattle.std.proofs.Common.{rules}
 use Rattle.test_replay.proofs.output.Output.write_number.Goals as goal
 
 pub returns : goal.returns

@@ -1,5 +1,5 @@
 -- `replay::session::Session::append_bar` meets its contract. Assumes nothing.
-use Rattle.std.proofs.Common.{refl, ap, ◌∙◌, arith, length-take, rules}
+use Rattle.std.proofs.Common.{refl, ap, ◌∙◌, arith, length-take}
 use Rattle.test_replay.specs.Buffer.{content}
 use Rattle.test_replay.proofs.Laws.Session.{bar-fits, no_room}
 use Rattle.test_replay.proofs.session.Session.append_bar.Goals as goal

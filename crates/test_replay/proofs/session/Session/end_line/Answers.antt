@@ -1,6 +1,5 @@
 -- `replay::session::Session::end_line` meets its contract. Assumes nothing.
 use Rattle.test_replay.proofs.Laws.Session.{executes-kept}
-use Rattle.std.proofs.Common.{rules}
 use Rattle.test_replay.proofs.session.Session.end_line.Goals as goal
 
 pub returns : goal.returns

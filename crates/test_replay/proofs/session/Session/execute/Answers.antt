@@ -1,7 +1,6 @@
 -- `replay::session::Session::execute` meets its contract. Each arm of the match says what the line is. Assumes nothing.
 use mathlib.Core.Bool.{false≢true}
-use Rattle.std.proofs.Common.{◌≡◌, length, take, sym, refl, ap, ◌∙◌, rules, ltb-true}
-use lib.ListN.{length-map}
+use Rattle.std.proofs.Common.{◌≡◌, length, take, sym, refl, ap, ◌∙◌, ltb-true}
 use lib.Seq.{take-length}
 use Rattle.test_replay.specs.Buffer.{content}
 use Rattle.recognisers.specs.Export.{bar_bytes}

@@ -1,5 +1,5 @@
 -- `replay::session::Session::feed` is safe, and ends: each turn passes a line feed. Assumes nothing.
-use Rattle.std.proofs.Common.{◌-◌, ◌≤◌, length, arith, rules}
+use Rattle.std.proofs.Common.{arith}
 use Rattle.test_replay.proofs.session.Session.feed.Goals as goal
 
 pub overflow_add-from : goal.overflow_add-from

@@ -1,4 +1,4 @@
-use Rattle.std.proofs.Common.{◌-◌, ◌≤◌, length, arith, rules}
+use Rattle.std.proofs.Common.{◌-◌, ◌≤◌, length}
 use Rattle.test_replay.proofs.session.Session.feed.Given as goal
 
 abbrev pub invariant-loop-from : goal.invariant-loop-from
