@@ -26,17 +26,8 @@ module _ (chunk : List ℕ) (at : ℕ) where
   within : (n : ℕ) → at ≤ length chunk → (room : ℕ) (s : State) → n ≡ used_of room s (take (length chunk - at) (drop at chunk)) → at + n ≤ length chunk
   within n inside room s e = omega (arith, used-most room s (take (length chunk - at) (drop at chunk)), rest)
 
-pub slice_bounds-absorb-count : goal.slice_bounds-absorb-count
-slice_bounds-absorb-count c = (omega arith, sym c.large-buffer.ensures, λ e. not-true c.args.st.stopped e)
-
-pub write_all-requires : goal.write_all-requires
-write_all-requires c =
-    let call = c.absorb-taken in
-    let within : call.result.written ≤ length call.new.out = omega (arith, call.ensures.within, call.auto.out) in
-    sym (length-take-le call.result.written call.new.out within)
-
 pub overflow_add-at : goal.overflow_add-at
-overflow_add-at c =
+overflow_add-at g c =
     let loop = c.loop-at in
     let inv = loop.invariant in
     let chunk = c.args.chunk.now in
@@ -45,7 +36,7 @@ overflow_add-at c =
     search rules
 
 pub loop-at-smaller : goal.loop-at-smaller
-loop-at-smaller c =
+loop-at-smaller g c =
     let loop = c.loop-at in
     let inv = loop.invariant in
     let chunk = c.args.chunk.now in
@@ -58,10 +49,10 @@ loop-at-smaller c =
     omega (arith, some, most, inside)
 
 pub loop-at-preserved : goal.loop-at-preserved
-loop-at-preserved c =
+loop-at-preserved g c =
     let loop = c.loop-at in
     let inv = loop.invariant in
     let chunk = c.args.chunk.now in
     let call = c.absorb-taken in
     let most = within chunk loop.at call.result.used inv.0 _ _ (ap (λ (a : Absorbed). a.used) call.ensures.answer) in
-    (most, call.auto.out ∙ inv.1, λ e. not-true call.result.session.stopped (both c.write_all.result (not call.result.session.stopped) e).1)
+    (most, call.auto.out ∙ inv.1, λ e. not-true call.result.session.stopped (both c.is_ok-wrote.result (not call.result.session.stopped) e).1)
