@@ -1,13 +1,12 @@
 -- Each turn uses some bytes, since the session has not stopped and the buffer has room. Assumes nothing.
 use Prim.Native.Nat.{ℕ, ◌+◌, ◌-◌, ◌≤◌, ◌<◌}
-use mathlib.Core.Bool.{true, false, not}
+use mathlib.Core.Bool.{not}
 use mathlib.Core.List.{List}
-use mathlib.Core.Path.{◌≡◌, sym, ap, ◌∙◌}
+use mathlib.Core.Path.{◌≡◌, ap, ◌∙◌}
 use native.Mathlib.Omega.{arith}
 use borrow.Author.Rules.{rules}
 use borrow.Author.Tests.{ltb-true, not-true}
 use lib.ListN.{length, take, drop, length-drop}
-use lib.Seq.{length-take-le}
 use Rattle.input_lines.proofs.PartLaws.{to_end}
 use Rattle.input_lines.proofs.RunLaws.{both}
 use Rattle.label_lines.specs.declared.session.Absorbed.{Absorbed}

@@ -1,5 +1,5 @@
 -- `cuts::digest::of_bytes` is safe and ends. Assumes nothing.
-use Rattle.std.proofs.Common.{◌-◌, ◌≤◌, length, arith, rules}
+use Rattle.std.proofs.Common.{arith}
 use Rattle.test_cuts.proofs.digest.of_bytes.Goals as goal
 
 pub overflow_cast-s : goal.overflow_cast-s

@@ -1,4 +1,4 @@
-use Rattle.std.proofs.Common.{◌-◌, ◌≤◌, length, arith, rules}
+use Rattle.std.proofs.Common.{◌-◌, ◌≤◌, length}
 use Rattle.test_cuts.proofs.digest.of_bytes.Given as goal
 
 abbrev pub invariant-loop-i : goal.invariant-loop-i

@@ -1,4 +1,4 @@
-use Rattle.std.proofs.Common.{◌-◌, ◌≤◌, rules}
+use Rattle.std.proofs.Common.{◌-◌, ◌≤◌}
 use Rattle.recognisers.specs.Number.{places}
 use Rattle.test_cuts.proofs.digest.of_places.Given as goal
 

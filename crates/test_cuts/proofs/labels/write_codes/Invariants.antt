@@ -1,4 +1,4 @@
-use Rattle.std.proofs.Common.{◌-◌, ◌≤◌, rules}
+use Rattle.std.proofs.Common.{◌-◌, ◌≤◌}
 use Rattle.recognisers.specs.Number.{labels}
 use Rattle.test_cuts.proofs.labels.write_codes.Given as goal
 

@@ -1,4 +1,4 @@
-use Rattle.std.proofs.Common.{◌-◌, ◌≤◌, rules}
+use Rattle.std.proofs.Common.{◌-◌, ◌≤◌}
 use Rattle.recognisers.specs.Number.{recognisers}
 use Rattle.test_cuts.proofs.limits.write_looks.Given as goal
 

@@ -1,4 +1,4 @@
-use Rattle.std.proofs.Common.{◌≡◌, ◌-◌, ◌*◌, ◌≤◌, length, rules}
+use Rattle.std.proofs.Common.{◌≡◌, ◌-◌, ◌*◌, ◌≤◌, length}
 use Rattle.recognisers.specs.Number.{recognisers, row_bytes}
 use Rattle.test_cuts.proofs.plain.rows.Given as goal
 

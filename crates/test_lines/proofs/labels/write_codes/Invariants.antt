@@ -1,4 +1,4 @@
-use Rattle.std.proofs.Common.{suc, ◌-◌, ◌≤◌, rules}
+use Rattle.std.proofs.Common.{suc, ◌-◌, ◌≤◌}
 use Rattle.recognisers.specs.Number.{labels}
 use Rattle.test_lines.proofs.labels.write_codes.Given as goal
 

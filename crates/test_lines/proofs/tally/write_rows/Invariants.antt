@@ -1,4 +1,4 @@
-use Rattle.std.proofs.Common.{◌-◌, ◌≤◌, rules}
+use Rattle.std.proofs.Common.{◌-◌, ◌≤◌}
 use Rattle.recognisers.specs.Number.{recognisers}
 use Rattle.test_lines.proofs.tally.write_rows.Given as goal
 

@@ -1,6 +1,5 @@
 -- `test_terms::print::price` is safe and ends: the bits are asked of no NaN. Assumes nothing.
 use mathlib.Core.Path.{sym}
-use borrow.Author.Rules.{rules}
 use Rattle.test_terms.proofs.print.price.Goals as goal
 
 pub float_to_bits-bits : goal.float_to_bits-bits

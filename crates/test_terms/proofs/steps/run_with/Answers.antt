@@ -1,7 +1,6 @@
 -- Parts that are no longer than the whole. Assumes nothing.
 use native.Mathlib.Omega.{arith}
 use lib.ListN.{length-take}
-use borrow.Author.Rules.{rules}
 use Rattle.test_terms.proofs.steps.run_with.Goals as goal
 
 pub slice_bounds-run-end : goal.slice_bounds-run-end
