@@ -1,4 +1,5 @@
 -- What a call that is accepted meets. Assumes nothing.
+use Rattle.std.specs.Prelude.{Err, Ok}
 use Prim.Native.Nat.{ℕ, ◌+◌, ◌*◌, ◌/◌, ◌%◌, ◌≤◌}
 use mathlib.Core.Path.{◌≡◌, refl}
 use mathlib.Core.Bool.{Bool, true, false, cond}
@@ -7,7 +8,6 @@ use borrow.Author.Tests.{not-false, eqb-true, ltb-false, eq-eqb, le-ltb}
 use Rattle.thresholds.specs.declared.Thresholds.{Thresholds}
 use Rattle.thresholds.specs.Threshold.{valid_of}
 use Rattle.rule_types.specs.Number.{row_bytes, most_bars}
-use Rattle.answers.specs.declared.refusals.Verdict.TheVariants.{Accepted, Denied}
 use Rattle.answers.specs.Refusal.{Tried, first_true, feed_tried, feed_verdict}
 
 -- none of refusals 3 to 6 is true
@@ -18,16 +18,16 @@ pub record Fits (t : Thresholds) (n prices sheet : ℕ) : Type 0 where
   pub room : row_bytes * (prices / 4) ≤ sheet
 
 -- where no refusal is true, the first is not and none of the others is
-pub none_true : (x : Tried) (xs : List Tried) → first_true (x ∷ xs) ≡ Accepted → (x.met ≡ false) × (first_true xs ≡ Accepted)
+pub none_true : (x : Tried) (xs : List Tried) → first_true (x ∷ xs) ≡ Ok tt → (x.met ≡ false) × (first_true xs ≡ Ok tt)
 unfolding first_true
 none_true x xs = go x.met refl
   where
-    go : (m : Bool) → x.met ≡ m → cond m (Denied x.why) (first_true xs) ≡ Accepted → (x.met ≡ false) × (first_true xs ≡ Accepted)
+    go : (m : Bool) → x.met ≡ m → cond m (Err x.why) (first_true xs) ≡ Ok tt → (x.met ≡ false) × (first_true xs ≡ Ok tt)
     go true e none = (cc, cc)
     go false e none = (e, none)
 
 -- an accepted feed meets them
-pub fits : (t : Thresholds) (n prices sheet : ℕ) → feed_verdict t n prices sheet ≡ Accepted → Fits t n prices sheet
+pub fits : (t : Thresholds) (n prices sheet : ℕ) → feed_verdict t n prices sheet ≡ Ok tt → Fits t n prices sheet
 unfolding feed_verdict feed_tried
 fits t n prices sheet none =
     let three = none_true _ _ none in
@@ -37,6 +37,6 @@ fits t n prices sheet none =
     record { valid = not-false _ three.0; whole = eqb-true _ _ (not-false _ four.0); few = ltb-false _ _ five.0; room = ltb-false _ _ six.0 }
 
 -- and one that meets them is accepted
-pub accepts : (t : Thresholds) (n prices sheet : ℕ) → Fits t n prices sheet → feed_verdict t n prices sheet ≡ Accepted
+pub accepts : (t : Thresholds) (n prices sheet : ℕ) → Fits t n prices sheet → feed_verdict t n prices sheet ≡ Ok tt
 unfolding feed_verdict feed_tried first_true
 accepts t n prices sheet f = simp (f.valid, eq-eqb (prices % 4) 0 f.whole, le-ltb most_bars (n + prices / 4) f.few, le-ltb sheet (row_bytes * (prices / 4)) f.room)

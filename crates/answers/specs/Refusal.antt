@@ -1,11 +1,14 @@
 -- "Why a call is refused": the refusals' numbers, when each is true, and which of them each call tries.
-use Rattle.std.specs.Prelude.{ℕ, ◌+◌, ◌*◌, ◌/◌, ◌%◌, Bool, cond, not, ◌&&◌, ◌||◌, List, [], ◌∷◌, ◌++◌, ltb, leb, eqb}
+use Rattle.std.specs.Prelude.{ℕ, ◌+◌, ◌*◌, ◌/◌, ◌%◌, Bool, cond, not, ◌&&◌, ◌||◌, List, [], ◌∷◌, ◌++◌, ltb, leb, eqb, Result, Ok, Err}
 use Rattle.thresholds.specs.declared.Thresholds.{Thresholds}
-use Rattle.answers.specs.declared.refusals.{Refusal.Refusal, Verdict.Verdict}
+use Rattle.answers.specs.declared.refusals.Refusal.{Refusal}
 use Rattle.answers.specs.declared.refusals.Refusal.TheVariants.{UnknownRecogniser, ZeroOffset, BadThreshold, BrokenBars, TooManyBars, ShortSheet, FarLook, BadShape, BadPrice, LateStamp, OutsideHours, BadLayer}
-use Rattle.answers.specs.declared.refusals.Verdict.TheVariants.{Accepted, Denied}
 use Rattle.thresholds.specs.Threshold.{valid_of}
 use Rattle.rule_types.specs.Number.{recognisers, row_bytes, most_bars, farthest_look, longest_line}
+
+-- whether a call is refused
+abbrev pub Verdict : Type 0
+Verdict = Result (Unit {0}) Refusal
 
 -- ---- the numbers
 
@@ -85,18 +88,18 @@ bad_layer valid = tried (not valid) BadLayer
 -- 3 to 6, a look 1 to 3, 5 and 7, a text line 8 and 9, the making of a layer 3 and 12, a run 3, 12, 4 to 6, and 10 and 11 bar by bar, a close 3, 12,
 -- 5 and 6
 unfoldable pub first_true : List Tried → Verdict
-first_true [] = Accepted
-first_true (x ∷ xs) = cond x.met (Denied x.why) (first_true xs)
+first_true [] = Ok tt
+first_true (x ∷ xs) = cond x.met (Err x.why) (first_true xs)
 
 -- its number, 0 for none
 abbrev pub verdict_number : Verdict → ℕ
-verdict_number Accepted = 0
-verdict_number (Denied r) = refusal_number r
+verdict_number (Ok _) = 0
+verdict_number (Err r) = refusal_number r
 
 -- what a call that may be refused leaves: a refusal leaves what was there
 abbrev pub leaves : {A : Type 0} → Verdict → A → A → A
-leaves Accepted was now = now
-leaves (Denied r) was now = was
+leaves (Ok _) was now = now
+leaves (Err r) was now = was
 
 -- tests with others next after those of a refusal: "next after 3", or "5 also covers" for others of the same
 unfoldable pub next_after : Refusal → List Tried → List Tried → List Tried

@@ -2,7 +2,7 @@
 ghost use Rattle.std.specs.Prelude.{◌≡◌};
 ghost use Rattle.answers.specs.Refusal.{first_true, feed_verdict, checked_tried, look_verdict};
 
-use crate::refusals::{Refusal, Verdict};
+use crate::refusals::Refusal;
 use rule_types::counts;
 use thresholds::Thresholds;
 
@@ -16,61 +16,61 @@ pub fn checked(
     whole: bool,
     right: bool,
     sheet: usize,
-) -> Verdict
+) -> Result<(), Refusal>
     ensures { result ≡ first_true (checked_tried t layer n prices whole right sheet) }
 {
     let valid = t.is_valid();
     if !valid {
-        return Verdict::Denied(Refusal::BadThreshold);
+        return Err(Refusal::BadThreshold);
     }
     if !layer {
-        return Verdict::Denied(Refusal::BadLayer);
+        return Err(Refusal::BadLayer);
     }
     if prices % 4 != 0 {
-        return Verdict::Denied(Refusal::BrokenBars);
+        return Err(Refusal::BrokenBars);
     }
     if !whole {
-        return Verdict::Denied(Refusal::BrokenBars);
+        return Err(Refusal::BrokenBars);
     }
     let bars = prices / 4;
     if counts::MOST_BARS < n as usize + bars {
-        return Verdict::Denied(Refusal::TooManyBars);
+        return Err(Refusal::TooManyBars);
     }
     if !right {
-        return Verdict::Denied(Refusal::TooManyBars);
+        return Err(Refusal::TooManyBars);
     }
     if sheet < counts::ROW_BYTES * bars {
-        return Verdict::Denied(Refusal::ShortSheet);
+        return Err(Refusal::ShortSheet);
     }
-    Verdict::Accepted
+    Ok(())
 }
 
 // The first of the refusals 3 to 6 that is true of a feed to a box that counts n bars.
-pub fn feed_verdict(t: Thresholds, n: u32, prices: usize, sheet: usize) -> Verdict
+pub fn feed_verdict(t: Thresholds, n: u32, prices: usize, sheet: usize) -> Result<(), Refusal>
     ensures { result ≡ feed_verdict t n prices sheet }
 {
     checked(t, true, n, prices, true, true, sheet)
 }
 
 // The first of the refusals 1, 2, 3, 5 and 7 that is true of a look at a box that counts n bars.
-pub fn look_verdict(k: u32, di: u32, t: Thresholds, n: u32) -> Verdict
+pub fn look_verdict(k: u32, di: u32, t: Thresholds, n: u32) -> Result<(), Refusal>
     ensures { result ≡ look_verdict k di t n }
 {
     if counts::RECOGNISERS <= k as usize {
-        return Verdict::Denied(Refusal::UnknownRecogniser);
+        return Err(Refusal::UnknownRecogniser);
     }
     if di == 0 {
-        return Verdict::Denied(Refusal::ZeroOffset);
+        return Err(Refusal::ZeroOffset);
     }
     let valid = t.is_valid();
     if !valid {
-        return Verdict::Denied(Refusal::BadThreshold);
+        return Err(Refusal::BadThreshold);
     }
     if counts::MOST_BARS < n as usize {
-        return Verdict::Denied(Refusal::TooManyBars);
+        return Err(Refusal::TooManyBars);
     }
     if counts::FARTHEST_LOOK < di {
-        return Verdict::Denied(Refusal::FarLook);
+        return Err(Refusal::FarLook);
     }
-    Verdict::Accepted
+    Ok(())
 }

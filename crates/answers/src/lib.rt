@@ -9,41 +9,28 @@ pub mod box_verdicts;
 pub mod refusals;
 pub mod verdicts;
 
-pub use refusals::{Refusal, Verdict};
+pub use refusals::Refusal;
 use rule_types::label::{Pair, code};
 
-// What a call answers.
+// What a look finds: the pair with the judged bar's ordinal, which is 0 where there is no such bar.
 #[derive(Clone, Copy)]
-pub enum Answer {
-    Labels(Pair),
-    Refused(Refusal),
-}
-
-// What a look answers: the pair with the judged bar's ordinal, which is 0 where there is no such bar, or the refusal alone.
-#[derive(Clone, Copy)]
-pub enum LookAnswer {
-    Judged { pair: Pair, ordinal: u32 },
-    Refused(Refusal),
+pub struct Judged {
+    pub pair: Pair,
+    pub ordinal: u32,
 }
 
 // The pair or the refusal that a look answers.
-pub fn answer_in(a: LookAnswer) -> Answer
+pub fn answer_in(a: Result<Judged, Refusal>) -> Result<Pair, Refusal>
     ensures { result ≡ answer_in a }
 {
-    match a {
-        LookAnswer::Judged { pair, ordinal: _ } => Answer::Labels(pair),
-        LookAnswer::Refused(why) => Answer::Refused(why),
-    }
+    a.map(|judged| judged.pair)
 }
 
 // The ordinal that a look answers, 0 if it is refused.
-pub fn ordinal_in(a: LookAnswer) -> u32
+pub fn ordinal_in(a: Result<Judged, Refusal>) -> u32
     ensures { result ≡ ordinal_in a }
 {
-    match a {
-        LookAnswer::Judged { pair: _, ordinal } => ordinal,
-        LookAnswer::Refused(_) => 0,
-    }
+    a.map_or(0, |judged| judged.ordinal)
 }
 
 // v1 × 256 + v2 of a pair.
@@ -56,11 +43,11 @@ fn pair_number(pair: Pair) -> u32
 }
 
 // What an answer is as a number: v1 × 256 + v2, or 65,536 plus the refusal.
-pub fn answer_number(a: Answer) -> u32
+pub fn answer_number(a: Result<Pair, Refusal>) -> u32
     ensures { result ≡ result_of a }
 {
     match a {
-        Answer::Labels(pair) => pair_number(pair),
-        Answer::Refused(why) => 65536 + refusals::refusal_number(why) as u32,
+        Ok(pair) => pair_number(pair),
+        Err(why) => 65536 + refusals::refusal_number(why) as u32,
     }
 }

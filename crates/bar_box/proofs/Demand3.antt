@@ -1,4 +1,5 @@
 -- Demand 3: what every list of feeds leaves, over every box without bars and over the box that making gives. Assumes nothing.
+use Rattle.std.specs.Prelude.{Err, Ok}
 use Prim.Native.Nat.{ℕ, ◌+◌, ◌-◌, ◌*◌, ◌≤◌, ◌<◌, min}
 use mathlib.Core.Path.{◌≡◌, refl, ap, sym, ◌∙◌}
 use mathlib.Core.Bool.{Bool, true, false, cond, not}
@@ -13,8 +14,6 @@ use Rattle.measures.specs.Window.{newest, back_of}
 use Rattle.measures.proofs.WindowLaws.{up_to-in, up_to-out}
 use Rattle.recognisers.specs.Threshold.{Thresholds, standard_set, valid_of}
 use Rattle.answers.specs.declared.refusals.Refusal.TheVariants.{BadThreshold}
-use Rattle.answers.specs.declared.refusals.Verdict.TheVariants.{Accepted, Denied}
-use Rattle.answers.specs.declared.LookAnswer.TheVariants.{Judged}
 use Rattle.recognisers.specs.Number.{recognisers, row_bytes, gated, places, farthest_look}
 use Rattle.recognisers.specs.Table.{table_row, pair_at, codes_of}
 use Rattle.recognisers.specs.Refusal.{first_true}
@@ -63,7 +62,7 @@ module _ (b : BarBox) (start : NoBars b) (fs : List Feed) where
   kept-place i one within = rw whole-box (place_at joined (drop (length joined) b.bars) i one within)
 
   -- a look gives the pair over the joined history, and the ordinal of the bar that it judges
-  look-joined : (di k : ℕ) → Within joined di k → look_answer_of (box_after b fs) k di ≡ Judged (pair_at k b.thresholds (length joined) joined di) (length joined - di + 1)
+  look-joined : (di k : ℕ) → Within joined di k → look_answer_of (box_after b fs) k di ≡ Ok (record { pair = (pair_at k b.thresholds (length joined) joined di); ordinal = (length joined - di + 1) })
   look-joined di k (limits, within) =
       rw joined-box (look-ordinal b start joined k di (joined-sound.valid (omega (arith, limits, within))) joined-sound.few limits ∙ rw (up_to-in (length joined) di limits.0 within))
 
@@ -152,7 +151,7 @@ unfolding empty_places
 fresh-none t = record { none = refl; all-places = refl }
 
 -- by whether the thresholds are inside their limits: "a refused box-making returns a fresh box with the standard set"
-by_limits : (t : Thresholds) (v : Bool) → valid_of t ≡ v → Fresh t (made_by (cond (not v) (Denied BadThreshold) Accepted) t)
+by_limits : (t : Thresholds) (v : Bool) → valid_of t ≡ v → Fresh t (made_by (cond (not v) (Err BadThreshold) (Ok tt)) t)
 unfolding empty_places
 by_limits t true e = record { no-bars = fresh-none t; thresholds = rw e; valid = e; zeros = refl }
 by_limits t false e = record { no-bars = fresh-none standard_set; thresholds = rw e; valid = standard-valid; zeros = refl }

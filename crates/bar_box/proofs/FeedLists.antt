@@ -1,5 +1,7 @@
 -- A list of feeds to a box without bars, against the same list to the plain history: the verdicts, the box and the joined rows;
 -- and one feed of a whole history to a box without bars. Assumes nothing.
+use Rattle.std.specs.Prelude.{Err, Ok}
+use Rattle.answers.specs.Refusal.{Verdict}
 use Prim.Native.Nat.{ℕ, ◌*◌, ◌≤◌}
 use mathlib.Core.Path.{◌≡◌, refl, ap, sym, ◌∙◌}
 use mathlib.Core.Logic.{◌⊎◌, inl, inr}
@@ -11,7 +13,6 @@ use lib.ListN.{length, length-append}
 use Rattle.measures.specs.Bar.{Bar, bars_of, prices_of}
 use Rattle.measures.proofs.RunLaws.{length-bars}
 use Rattle.recognisers.specs.Threshold.{Thresholds, valid_of}
-use Rattle.answers.specs.declared.refusals.Verdict.{Verdict, TheVariants.Accepted, TheVariants.Denied}
 use Rattle.recognisers.specs.Number.{row_bytes, most_bars}
 use Rattle.box_record.specs.declared.boxes.BarBox.{BarBox}
 use Rattle.bar_box.specs.Sheet.{rows_of}
@@ -37,10 +38,10 @@ sound_empty t = record { few = omega arith; valid = λ some. absurd (let z : ⊥
 
 -- after one feed, by its verdict
 sound-by : (t : Thresholds) (h : List Bar) (f : Feed) (v : Verdict) → verdict_on t h f ≡ v → Sound t h → Sound t (leaves v h (h ++ bars_of f.prices))
-sound-by t h f Accepted e s =
+sound-by t h f (Ok tt) e s =
     let met = fits t (length h) (length f.prices) (length f.sheet) e in
     record { few = rw (length-append, length-bars) met.few; valid = λ some. met.valid }
-sound-by t h f (Denied r) e s = s
+sound-by t h f (Err r) e s = s
 
 -- after a list of feeds
 pub sound-after : (t : Thresholds) (h : List Bar) (fs : List Feed) → Sound t h → Sound t (history_after t h fs)
@@ -50,8 +51,8 @@ sound-after t h fs s = kept (appended t) (Sound t) (λ h f. sound-by t h f (verd
 
 -- the rows of a history, and then those that a feed gives, by its verdict, are the rows of the history after the feed
 rows-by : (t : Thresholds) (v : Verdict) (h bars : List Bar) → rows_of t 0 [] h ++ leaves v [] (rows_of t (length h) h bars) ≡ rows_of t 0 [] (leaves v h (h ++ bars))
-rows-by t Accepted h bars = sym (rows_append t 0 [] h bars ∙ rw zero-add)
-rows-by t (Denied r) h bars = append-nil (rows_of t 0 [] h)
+rows-by t (Ok tt) h bars = sym (rows_append t 0 [] h bars ∙ rw zero-add)
+rows-by t (Err r) h bars = append-nil (rows_of t 0 [] h)
 
 module _ (b : BarBox) (start : NoBars b) where
   abbrev t : Thresholds
@@ -94,10 +95,10 @@ bar-or-none [] p = inr refl
 bar-or-none (x ∷ h) p = inl (p (omega arith))
 
 -- the whole history is there after it, whatever one reads of it, if it is accepted or has no bar
-all_there : {A : Type 0} (F : List Bar → A) (v : Verdict) (h : List Bar) → (v ≡ Accepted) ⊎ (h ≡ []) → leaves v (F []) (F h) ≡ F h
+all_there : {A : Type 0} (F : List Bar → A) (v : Verdict) (h : List Bar) → (v ≡ Ok tt) ⊎ (h ≡ []) → leaves v (F []) (F h) ≡ F h
 all_there F v h (inl e) = rw e
-all_there F Accepted h (inr e) = refl
-all_there F (Denied r) h (inr e) = rw e
+all_there F (Ok tt) h (inr e) = refl
+all_there F (Err r) h (inr e) = rw e
 
 module _ (b : BarBox) (start : NoBars b) (h : List Bar) (sheet : List ℕ) (s : Sound b.thresholds h) (room : row_bytes * length h ≤ length sheet) where
   abbrev one : Feed
@@ -107,17 +108,17 @@ module _ (b : BarBox) (start : NoBars b) (h : List Bar) (sheet : List ℕ) (s : 
   verdict = verdict_on b.thresholds [] one
 
   -- on a sheet that is long enough it is accepted, if the thresholds are inside their limits
-  one-verdict : valid_of b.thresholds ≡ true → verdict ≡ Accepted
+  one-verdict : valid_of b.thresholds ≡ true → verdict ≡ Ok tt
   one-verdict valid =
       let four = length-prices h in
       let few = s.few in
       accepts b.thresholds 0 (length (prices_of h)) (length sheet) (record { valid = valid; whole = omega arith; few = omega arith; room = omega arith })
 
-  pub one-accepted : valid_of b.thresholds ≡ true → (fed b one).verdict ≡ Accepted
+  pub one-accepted : valid_of b.thresholds ≡ true → (fed b one).verdict ≡ Ok tt
   one-accepted valid = ap (λ x. (fed x one).verdict) (at-start b start) ∙ verdict-step b start [] one ∙ one-verdict valid
 
   -- where they are not, the history has no bar
-  accepted-or-none : (verdict ≡ Accepted) ⊎ (h ≡ [])
+  accepted-or-none : (verdict ≡ Ok tt) ⊎ (h ≡ [])
   accepted-or-none = bar-or-none h (λ some. one-verdict (s.valid some))
 
   -- it leaves the box that the history leaves

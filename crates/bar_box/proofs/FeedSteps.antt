@@ -1,5 +1,7 @@
 -- One feed to the box that a history left, against the same feed to the plain history: its verdict, the box after it and the rows that it
 -- gives. Assumes nothing.
+use Rattle.std.specs.Prelude.{Err, Ok}
+use Rattle.answers.specs.Refusal.{Verdict}
 use Prim.Native.Nat.{ℕ, ◌+◌, ◌*◌, ◌≤◌}
 use mathlib.Core.Path.{◌≡◌, refl, ◌∙◌}
 use mathlib.Core.List.{List, [], ◌++◌}
@@ -12,7 +14,6 @@ use Rattle.measures.specs.Bar.{Bar, bars_of, overlay}
 use Rattle.measures.specs.Window.{newest}
 use Rattle.measures.proofs.RunLaws.{length-bars}
 use Rattle.recognisers.specs.Threshold.{Thresholds}
-use Rattle.answers.specs.declared.refusals.Verdict.{Verdict, TheVariants.Accepted, TheVariants.Denied}
 use Rattle.recognisers.specs.Number.{row_bytes, places}
 use Rattle.recognisers.specs.Refusal.{leaves, feed_verdict}
 pub use Rattle.answers.proofs.VerdictLaws.{Fits, none_true, fits, accepts}
@@ -31,37 +32,37 @@ abbrev lent : Verdict → List Float → List Float
 lent v ps = take (leaves v 0 (length ps)) ps
 
 pub lent-few : (v : Verdict) (n : ℕ) → leaves v 0 n ≤ n
-lent-few Accepted n = omega arith
-lent-few (Denied r) n = omega arith
+lent-few (Ok tt) n = omega arith
+lent-few (Err r) n = omega arith
 
 -- 32 bits hold N and their bars, and the sheet has room for their rows
 pub lent_fits : (t : Thresholds) (n : ℕ) (ps : List Float) (sheet : ℕ) (v : Verdict) → feed_verdict t n (length ps) sheet ≡ v → n ≤ 4294967295
     → (n + length (bars_of (lent v ps)) ≤ 4294967295) × (row_bytes * length (bars_of (lent v ps)) ≤ sheet)
 unfolding bars_of
-lent_fits t n ps sheet Accepted e bound =
+lent_fits t n ps sheet (Ok tt) e bound =
     let f = fits t n (length ps) sheet e in
     rw (take-length ps, length-bars ps) (omega (arith, f.few), f.room)
-lent_fits t n ps sheet (Denied r) e bound = (omega arith, omega arith)
+lent_fits t n ps sheet (Err r) e bound = (omega arith, omega arith)
 
 -- they leave the box that the verdict says
 pub lent-box : (v : Verdict) (b : BarBox) → length b.bars ≡ places → (ps : List Float) → taken_in b (bars_of (lent v ps)) ≡ leaves v b (taken_in b (bars_of ps))
 unfolding bars_of
-lent-box Accepted b all ps = rw (take-length ps)
-lent-box (Denied r) b all ps = taken_none b all
+lent-box (Ok tt) b all ps = rw (take-length ps)
+lent-box (Err r) b all ps = taken_none b all
 
 -- and the sheet
 pub lent-sheet : (v : Verdict) (t : Thresholds) (n : ℕ) (h : List Bar) (ps : List Float) (sheet : List ℕ)
     → overlay sheet 0 (rows_of t n h (bars_of (lent v ps))) ≡ leaves v sheet (overlay sheet 0 (rows_of t n h (bars_of ps)))
 unfolding bars_of rows_of
-lent-sheet Accepted t n h ps sheet = rw (take-length ps)
-lent-sheet (Denied r) t n h ps sheet = overlay-none sheet 0
+lent-sheet (Ok tt) t n h ps sheet = rw (take-length ps)
+lent-sheet (Err r) t n h ps sheet = overlay-none sheet 0
 
 -- ---- the box that a history left
 
 -- the rows out of the sheet, as the feed leaves it
 written : (v : Verdict) (sheet rows : List ℕ) (n : ℕ) → length rows ≡ n → leaves v [] (take n (leaves v sheet (overlay sheet 0 rows))) ≡ leaves v [] rows
-written Accepted sheet rows n e = take_at rows (drop (0 + length rows) sheet) n e
-written (Denied r) sheet rows n e = refl
+written (Ok tt) sheet rows n e = take_at rows (drop (0 + length rows) sheet) n e
+written (Err r) sheet rows n e = refl
 
 module _ (b : BarBox) (start : NoBars b) where
   -- its N is the history's count
@@ -79,8 +80,8 @@ module _ (b : BarBox) (start : NoBars b) where
 
   -- by its verdict, it leaves the box that the history after it leaves
   box-by : (v : Verdict) (h bars : List Bar) → leaves v (taken_in b h) (taken_in (taken_in b h) bars) ≡ taken_in b (leaves v h (h ++ bars))
-  box-by Accepted h bars = taken-append b start.all-places h bars
-  box-by (Denied r) h bars = refl
+  box-by (Ok tt) h bars = taken-append b start.all-places h bars
+  box-by (Err r) h bars = refl
 
   -- the box after the feed is the one that the history after the feed leaves
   pub box-step : (h : List Bar) (f : Feed) → (fed (taken_in b h) f).after ≡ taken_in b (appended b.thresholds h f)

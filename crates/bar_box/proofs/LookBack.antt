@@ -1,5 +1,6 @@
 -- A look at the box that a history left: it gives the pair over the whole history, which for every recogniser but 12 is the pair over the
 -- history up to the judged bar. Assumes nothing.
+use Rattle.std.specs.Prelude.{Ok}
 use Prim.Native.Nat.{ℕ, ◌≤◌}
 use mathlib.Core.Path.{◌≡◌}
 use mathlib.Core.Bool.{true}
@@ -12,8 +13,6 @@ use Rattle.measures.specs.Bar.{Bar}
 use Rattle.measures.specs.Window.{up_to, window_of}
 use Rattle.measures.proofs.WindowLaws.{up_to-one}
 use Rattle.recognisers.specs.Threshold.{Thresholds, valid_of}
-use Rattle.answers.specs.declared.refusals.Verdict.TheVariants.{Accepted}
-use Rattle.answers.specs.declared.LookAnswer.TheVariants.{Judged}
 use Rattle.recognisers.specs.Number.{recognisers, gated, reach_bars, most_bars, farthest_look}
 use Rattle.recognisers.specs.Table.{pair_at}
 use Rattle.recognisers.specs.Refusal.{first_true, look_verdict}
@@ -25,14 +24,14 @@ use Rattle.bar_box.specs.History.{InLimits, NoBars}
 use Rattle.bar_box.proofs.FeedSteps.{count-after, kept-after}
 
 -- a look of which none of refusals 1, 2, 3, 5 and 7 is true
-look-accepted : (k di : ℕ) (t : Thresholds) (n : ℕ) → valid_of t ≡ true → n ≤ most_bars → InLimits di k → look_verdict k di t n ≡ Accepted
+look-accepted : (k di : ℕ) (t : Thresholds) (n : ℕ) → valid_of t ≡ true → n ≤ most_bars → InLimits di k → look_verdict k di t n ≡ Ok tt
 unfolding look_verdict first_true
 look-accepted k di t n valid few (one, near, known) =
     simp (lt-leb recognisers k known, ne_eqb di 0 (λ e. omega arith), valid, le-ltb most_bars n few, le-ltb farthest_look di near)
 
 -- within its limits it gives the pair over the whole history, of 12 too, and the number of bars up to the judged one as its ordinal
 pub look-ordinal : (b : BarBox) → NoBars b → (h : List Bar) (k di : ℕ) → valid_of b.thresholds ≡ true → length h ≤ most_bars → InLimits di k
-    → look_answer_of (taken_in b h) k di ≡ Judged (pair_at k b.thresholds (length h) h di) (up_to (length h) di)
+    → look_answer_of (taken_in b h) k di ≡ Ok (record { pair = (pair_at k b.thresholds (length h) h di); ordinal = (up_to (length h) di) })
 unfolding look_answer_of look_of
 look-ordinal b start h k di valid few limits =
     let t = b.thresholds in

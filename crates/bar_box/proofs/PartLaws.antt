@@ -1,4 +1,5 @@
 -- What crates above cite of an accepted feed: what it leaves, on a part of a sheet too, and of two feeds one after the other. Assumes nothing.
+use Rattle.std.specs.Prelude.{Ok}
 use Prim.Native.Nat.{ℕ, ◌+◌, ◌-◌, ◌*◌, ◌≤◌}
 use mathlib.Core.Path.{◌≡◌, ◌∙◌}
 use mathlib.Core.Bool.{true}
@@ -11,7 +12,6 @@ use lib.Seq.{take_all, drop-drop}
 use lib.Ieee.{Float}
 use Rattle.measures.specs.Bar.{Bar, bars_of, overlay}
 use Rattle.recognisers.specs.Threshold.{Thresholds, valid_of}
-use Rattle.answers.specs.declared.refusals.Verdict.TheVariants.{Accepted}
 use Rattle.recognisers.specs.Number.{places, row_bytes}
 use Rattle.recognisers.specs.Refusal.{first_true, feed_verdict}
 use Rattle.box_record.specs.declared.boxes.BarBox.{BarBox}
@@ -50,7 +50,7 @@ overlay-rest s at xs =
 abbrev pub rows_from : BarBox → List Bar → List ℕ
 rows_from b bars = rows_of b.thresholds b.count (kept b) bars
 
-module _ (b : BarBox) (ps : List Float) (sheet : List ℕ) (e : feed_verdict b.thresholds b.count (length ps) (length sheet) ≡ Accepted) where
+module _ (b : BarBox) (ps : List Float) (sheet : List ℕ) (e : feed_verdict b.thresholds b.count (length ps) (length sheet) ≡ Ok tt) where
   -- the box with the bars taken in
   pub fed-box : (fed_of b ps (length sheet)).after ≡ taken_in b (bars_of ps)
   unfolding fed_of

@@ -1,11 +1,11 @@
 -- "What a list of feeds leaves": demand 3. The first part builds the plain history from what the feeds were lent; the second follows the
 -- calls; the third says how the two agree.
+use Rattle.std.specs.Prelude.{Ok}
+use Rattle.answers.specs.Refusal.{Verdict}
 use Rattle.std.specs.Prelude.{ℕ, ◌+◌, ◌-◌, ◌*◌, ◌≤◌, ◌<◌, min, ◌≡◌, true, cond, List, [], ◌∷◌, ◌++◌, length, get_or, take, drop, replicate, Float}
 use Rattle.measures.specs.Bar.{Bar, no_bar, bars_of, prices_of}
 use Rattle.measures.specs.Window.{newest, back_of}
 use Rattle.recognisers.specs.Threshold.{Thresholds, standard_set, valid_of}
-use Rattle.answers.specs.declared.refusals.Verdict.{Verdict, TheVariants.Accepted}
-use Rattle.answers.specs.declared.LookAnswer.TheVariants.{Judged}
 use Rattle.recognisers.specs.Number.{recognisers, row_bytes, gated, places, farthest_look}
 use Rattle.recognisers.specs.Table.{table_row, pair_at, codes_of}
 use Rattle.recognisers.specs.Refusal.{codes_in, answer_in, ordinal_in, leaves, feed_verdict}
@@ -88,7 +88,7 @@ pub record Holds (b : BarBox) (fs : List Feed) (h : List Bar) (sheet : List ℕ)
   -- the thresholds are outside their limits, where every feed is refused and no bar is there
   pub same_rows : joined_rows b fs ≡ rows_in b (one_feed h sheet)
   pub same-box : box_after b fs ≡ (fed b (one_feed h sheet)).after
-  pub accepted : valid_of b.thresholds ≡ true → (fed b (one_feed h sheet)).verdict ≡ Accepted
+  pub accepted : valid_of b.thresholds ≡ true → (fed b (one_feed h sheet)).verdict ≡ Ok tt
   -- (c) one row for each bar; each has the pairs that the rules give at offset 1 over the history up to that bar, 12's len being the number
   -- of bars up to it
   pub row_count : length (joined_rows b fs) ≡ row_bytes * length h
@@ -101,7 +101,7 @@ pub record Holds (b : BarBox) (fs : List Feed) (h : List Bar) (sheet : List ℕ)
       → let ordinal = length h - min (length h) places + i in in_place (box_after b fs) i ≡ kept_bar (bar_with h ordinal) ordinal
   -- (f) a look at an offset from 1 to 43 within the history gives, of 12 as of all, the pair of the rule at that offset over the whole history, with
   -- the history's count for len, and the judged bar's ordinal
-  pub look-whole : (di k : ℕ) → Within h di k → look_answer_of (box_after b fs) k di ≡ Judged (pair_at k b.thresholds (length h) h di) (length h - di + 1)
+  pub look-whole : (di k : ℕ) → Within h di k → look_answer_of (box_after b fs) k di ≡ Ok (record { pair = (pair_at k b.thresholds (length h) h di); ordinal = (length h - di + 1) })
   -- (g) the bar with that ordinal in the history is the di-th from its end, and the box keeps it with that ordinal, in the place that is the di-th
   -- from the last kept one
   pub look-judges : (di k : ℕ) → Within h di k → bar_with h (ordinal_in (look_answer_of (box_after b fs) k di)) ≡ back_of h di

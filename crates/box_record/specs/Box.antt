@@ -1,11 +1,12 @@
 -- "A feed reaches the box", "A look": the box, its making and a look, for every box that a caller can hand in.
+use Rattle.std.specs.Prelude.{Err, Ok}
+use Rattle.answers.specs.Refusal.{Verdict}
+use Rattle.answers.specs.Answer.{Answer, LookAnswer}
 use Rattle.std.specs.Prelude.{ℕ, List, [], ◌∷◌, map, take, replicate}
 use Rattle.measures.specs.Bar.{Bar, bar_of}
 use Rattle.measures.specs.Price.{zero}
 use Rattle.measures.specs.Window.{up_to}
 use Rattle.recognisers.specs.Threshold.{Thresholds, standard_set}
-use Rattle.answers.specs.declared.refusals.Verdict.{Verdict, TheVariants.Accepted, TheVariants.Denied}
-use Rattle.answers.specs.declared.{Answer.Answer, Answer.TheVariants.Labels, LookAnswer.LookAnswer}
 use Rattle.recognisers.specs.Number.{places}
 use Rattle.recognisers.specs.Table.{pair_at}
 use Rattle.recognisers.specs.Refusal.{bad_threshold, first_true, look_verdict, answer_to, with_ordinal}
@@ -48,15 +49,15 @@ outcome v b = record { verdict = v; after = b }
 
 -- box-making tries 3; a refused one gives a fresh box with the standard set
 abbrev pub made_by : Verdict → Thresholds → BarBox
-made_by Accepted t = fresh_box t
-made_by (Denied r) t = fresh_box standard_set
+made_by (Ok tt) t = fresh_box t
+made_by (Err r) t = fresh_box standard_set
 
 unfoldable pub made_of : Thresholds → Outcome
 made_of t = let v = first_true (bad_threshold t ∷ []) in outcome v (made_by v t)
 
 -- a look tries 1, 2, 3, 5 and 7 (look_verdict). The pair is that over the kept bars, with N for len, so that p = N − di + 1
 unfoldable pub look_of : BarBox → ℕ → ℕ → Answer
-look_of b k di = answer_to (look_verdict k di b.thresholds b.count) (Labels (pair_at k b.thresholds b.count (kept b) di))
+look_of b k di = answer_to (look_verdict k di b.thresholds b.count) (Ok (pair_at k b.thresholds b.count (kept b) di))
 
 -- the judged bar's ordinal is N − di + 1, or 0 where there is none, as p is; no ordinal of a record is read for it
 unfoldable pub look_answer_of : BarBox → ℕ → ℕ → LookAnswer

@@ -26,7 +26,7 @@ pub struct BarBox {
 #[derive(Clone, Copy)]
 pub struct Outcome {
     pub after: BarBox,
-    pub verdict: Verdict,
+    pub verdict: Result<(), Refusal>,
 }
 
 // A box without bars, with these thresholds, whatever they are: where they are outside their limits, calls on it are refused.
@@ -57,13 +57,13 @@ pub fn make(t: Thresholds) -> Outcome
     let valid = t.is_valid();
     if valid {
         Outcome {
-            verdict: Verdict::Accepted,
+            verdict: Ok(()),
             after: fresh(t),
         }
     } else {
         let standard = Thresholds::standard();
         Outcome {
-            verdict: Verdict::Denied(Refusal::BadThreshold),
+            verdict: Err(Refusal::BadThreshold),
             after: fresh(standard),
         }
     }

@@ -35,15 +35,15 @@ fn judged_ordinal(n: u32, di: u32) -> u32
 }
 
 // The pair of a recogniser at an offset from the newest bar, and the judged bar's ordinal; the box stays.
-pub fn look(b: BarBox, k: u32, di: u32) -> LookAnswer
+pub fn look(b: BarBox, k: u32, di: u32) -> Result<Judged, Refusal>
     ensures answer { result ≡ look_answer_of b k di }
     ensures number { refusal_in (answer_in result) ≡ verdict_number (look_verdict k di b.thresholds b.count) }
     ensures values { (codes_in (answer_in result) ≡ leaves (look_verdict k di b.thresholds b.count) [] (codes_of (pair_at k b.thresholds b.count (kept b) di ∷ [])))
         × (ordinal_in result ≡ leaves (look_verdict k di b.thresholds b.count) 0 (up_to b.count di)) }
 {
     match look_verdict(k, di, b.thresholds, b.count) {
-        Verdict::Denied(why) => LookAnswer::Refused(why),
-        Verdict::Accepted => {
+        Err(why) => Err(why),
+        Ok(()) => {
             let bars = b.bars;
             LookAnswer::Judged {
                 pair: pair_back(b.thresholds, b.count, bars, k, di),

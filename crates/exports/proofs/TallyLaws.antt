@@ -1,9 +1,9 @@
 -- Feeds with a tally that numbers are, as the code has them. Assumes nothing.
+use Rattle.std.specs.Prelude.{Err, Ok}
 use Prim.Native.Nat.{ℕ}
 use mathlib.Core.Path.{◌≡◌, ◌∙◌}
 use mathlib.Core.List.{List}
 use Rattle.answers.specs.declared.refusals.Refusal.{Refusal}
-use Rattle.answers.specs.declared.refusals.Verdict.TheVariants.{Accepted, Denied}
 use Rattle.box_record.specs.declared.boxes.BarBox.{BarBox}
 use Rattle.bar_box.specs.History.{Feed}
 use Rattle.tallies.specs.declared.table.TallyRow.{TallyRow}
@@ -20,8 +20,8 @@ module _ (a b : BarBox) (s t : List TallyRow) (f : Feed) (same-box : a ≡ b) (s
   sheet-is then is = is ∙ rw (same-box, same-tally)
 
 module _ (out one : Tallied) (is : out ≡ one) (numbers : List ℕ) where
-  pub numbers-refused : (r : Refusal) → out.verdict ≡ Denied r → numbers ≡ numbers_after numbers one
+  pub numbers-refused : (r : Refusal) → out.verdict ≡ Err r → numbers ≡ numbers_after numbers one
   numbers-refused r e = rw (← is, e)
 
-  pub numbers-accepted : out.verdict ≡ Accepted → (then : List ℕ) → then ≡ written_to numbers (numbers_of out.tally) → then ≡ numbers_after numbers one
+  pub numbers-accepted : out.verdict ≡ Ok tt → (then : List ℕ) → then ≡ written_to numbers (numbers_of out.tally) → then ≡ numbers_after numbers one
   numbers-accepted e then is-then = rw (← is, e) is-then

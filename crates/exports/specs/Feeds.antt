@@ -1,8 +1,8 @@
 -- A look after feeds.
+use Rattle.answers.specs.Answer.{LookAnswer}
 use Rattle.std.specs.Prelude.{ℕ}
 use Rattle.measures.specs.Window.{up_to}
 use Rattle.recognisers.specs.Refusal.{answer_to, with_ordinal}
-use Rattle.answers.specs.declared.LookAnswer.{LookAnswer}
 use Rattle.box_record.specs.declared.boxes.Outcome.{Outcome}
 use Rattle.bar_box.specs.Box.{look_of}
 

@@ -61,14 +61,14 @@ fn look_after(
     sizes: &[u32],
     prices: &[f64],
     sheet: &mut [u8],
-) -> LookAnswer
+) -> Result<Judged, Refusal>
     ensures { (result ≡ look_after (fed_of (fresh_box t) prices.now (length sheet.old)) recogniser offset) × (sheet.new ≡ sheet_of (fresh_box t) prices.now sheet.old) }
 {
     let out = fed(t, sizes, prices, sheet);
     let verdict = out.verdict;
     match verdict {
-        Verdict::Denied(why) => LookAnswer::Refused(why),
-        Verdict::Accepted => {
+        Err(why) => Err(why),
+        Ok(()) => {
             let after = out.after;
             bar_box::look(after, recogniser, offset)
         }

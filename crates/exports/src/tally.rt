@@ -103,7 +103,7 @@ pub extern "C" fn jcc_tally(
     let tally = table_of(numbers);
     let fed = feed_parts(fresh(t), true, tally, sizes, prices, sheet);
     let verdict = fed.verdict;
-    if let Verdict::Accepted = verdict {
+    if let Ok(()) = verdict {
         let after = fed.tally;
         put(after, numbers);
     }

@@ -47,7 +47,7 @@ pub extern "C" fn jcc_terms(
     );
     let made = terms::make(t, hours_of(hours), minutes);
     let verdict = made.verdict;
-    if let Verdict::Accepted = verdict {
+    if let Ok(()) = verdict {
         let l = made.after;
         make_calls(l, sizes, prices, stamps, sheet, answers);
     }

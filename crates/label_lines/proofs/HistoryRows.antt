@@ -1,4 +1,5 @@
 -- What an input prints is what its lines print over the whole history up to each bar, though the box keeps 64. Assumes nothing.
+use Rattle.std.specs.Prelude.{Err, Ok}
 use Prim.Native.Nat.{ℕ, ◌+◌, ◌≤◌}
 use mathlib.Core.Bool.{Bool, true, false, cond}
 use mathlib.Core.List.{List, [], ◌∷◌, ◌++◌, map, append-nil}
@@ -9,7 +10,6 @@ use lib.Dec.{ltb}
 use lib.ListN.{length, replicate, length-append}
 use Rattle.measures.specs.Bar.{Bar, bars_of, prices_of}
 use Rattle.answers.specs.declared.refusals.Refusal.TheVariants as refusal
-use Rattle.answers.specs.declared.refusals.Verdict.TheVariants.{Accepted, Denied}
 use Rattle.recognisers.specs.Number.{row_bytes, most_bars, places}
 use Rattle.recognisers.specs.Refusal.{first_true, feed_tried, feed_verdict}
 use Rattle.recognisers.specs.Threshold.{standard_set}
@@ -54,11 +54,11 @@ module _ (h : List Bar) (bar : Bar) where
 
   -- up to the most bars it is accepted
   module _ (few : length h + 1 ≤ most_bars) where
-    pub accepted : verdict_on standard_set h feed ≡ Accepted
+    pub accepted : verdict_on standard_set h feed ≡ Ok tt
     unfolding prices_of
     accepted = accepts standard_set (length h) 4 row_bytes (record { valid = standard-valid; whole = refl; few = few; room = omega arith })
 
-    fed : (fed_of (box_of h) (prices_of (bar ∷ [])) row_bytes).verdict ≡ Accepted
+    fed : (fed_of (box_of h) (prices_of (bar ∷ [])) row_bytes).verdict ≡ Ok tt
     fed = verdict-step fresh start h feed ∙ accepted
 
     after : (fed_of (box_of h) (prices_of (bar ∷ [])) row_bytes).after ≡ box_of more
@@ -77,7 +77,7 @@ module _ (h : List Bar) (bar : Bar) where
     fed-more = fed-accepted (box_of h) bar _ refl fed ∙ rw (row, after, count-after fresh start h, length-append h (bar ∷ []))
 
   -- past them it is refused
-  pub past : length h ≡ most_bars → verdict_on standard_set h feed ≡ Denied refusal.TooManyBars
+  pub past : length h ≡ most_bars → verdict_on standard_set h feed ≡ Err refusal.TooManyBars
   unfolding feed_verdict feed_tried first_true prices_of
   past most = simp (standard-valid, lt-ltb most_bars (length h + 1) (omega arith))
 

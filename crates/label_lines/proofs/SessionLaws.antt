@@ -1,5 +1,6 @@
 -- Runs of bytes: one behind the other, one without a line feed, one that ends with it, and one after a refusal; how many are taken in;
 -- and a fed bar. Assumes nothing.
+use Rattle.std.specs.Prelude.{Err, Ok}
 use Prim.Native.Nat.{ℕ, suc, ◌+◌, ◌-◌, ◌≤◌, ◌<◌, min}
 use mathlib.Core.Bool.{Bool, true, false, cond, not, ◌&&◌, ◌||◌, true≢false}
 use mathlib.Core.List.{List, [], ◌∷◌, ◌++◌, append_assoc, append-nil}
@@ -13,7 +14,6 @@ use lib.ListN.{length, take, drop, replicate, length-append, length-take, take-a
 use lib.Seq.{take_all, take-add, length-take-le}
 use Rattle.measures.specs.Bar.{Bar, prices_of}
 use Rattle.answers.specs.declared.refusals.Refusal.{Refusal}
-use Rattle.answers.specs.declared.refusals.Verdict.TheVariants.{Accepted, Denied}
 use Rattle.recognisers.specs.Number.{longest_line, row_bytes}
 use Rattle.box_record.specs.declared.boxes.BarBox.{BarBox}
 use Rattle.box_record.specs.declared.boxes.Outcome.{Outcome}
@@ -200,18 +200,18 @@ used-quiet room s (x ∷ xs) ys n going full e on =
 
 -- ---- a fed bar, by the verdict of its feed
 module _ (b : BarBox) (bar : Bar) (o : Outcome) (e : o ≡ fed_of b (prices_of (bar ∷ [])) row_bytes) where
-  pub fed-refused : (r : Refusal) → o.verdict ≡ Denied r → fed_step b bar ≡ refused_step b (By r)
+  pub fed-refused : (r : Refusal) → o.verdict ≡ Err r → fed_step b bar ≡ refused_step b (By r)
   unfolding fed_step
   fed-refused r d = rw (← e, d)
 
   -- a refused feed leaves the box
-  pub fed-left : (r : Refusal) → o.verdict ≡ Denied r → o.after ≡ b
+  pub fed-left : (r : Refusal) → o.verdict ≡ Err r → o.after ≡ b
   unfolding fed_of
   fed-left r d =
-      let denied : (fed_of b (prices_of (bar ∷ [])) row_bytes).verdict ≡ Denied r = sym (ap (λ (x : Outcome). x.verdict) e) ∙ d in
+      let denied : (fed_of b (prices_of (bar ∷ [])) row_bytes).verdict ≡ Err r = sym (ap (λ (x : Outcome). x.verdict) e) ∙ d in
       ap (λ (x : Outcome). x.after) e ∙ rw denied
 
-  pub fed-accepted : o.verdict ≡ Accepted
+  pub fed-accepted : o.verdict ≡ Ok tt
       → fed_step b bar ≡ record { printed = row_lines (b.count + 1) 0 (sheet_of b (prices_of (bar ∷ [])) (replicate row_bytes 0)); after = o.after; stops = false }
   unfolding fed_step
   fed-accepted a = rw (← e, a)

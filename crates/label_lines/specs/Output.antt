@@ -1,7 +1,8 @@
 -- "The labels program": what it prints for an input.
+use Rattle.std.specs.Prelude.{Err, Ok}
+use Rattle.answers.specs.Refusal.{Verdict}
 use Rattle.std.specs.Prelude.{ℕ, ◌+◌, Bool, true, false, cond, List, [], ◌∷◌, ◌++◌, replicate}
 use Rattle.measures.specs.Bar.{Bar, prices_of}
-use Rattle.answers.specs.declared.refusals.Verdict.{Verdict, TheVariants.Accepted, TheVariants.Denied}
 use Rattle.answers.specs.declared.refusals.Refusal.TheVariants as refusal
 use Rattle.recognisers.specs.Number.{row_bytes}
 use Rattle.recognisers.specs.Threshold.{standard_set}
@@ -27,8 +28,8 @@ refused_step b stop = record { printed = refusal_line (b.count + 1) stop; after 
 
 -- an accepted bar prints its rows, a refused one the refusal, and stops
 abbrev pub judged_of : Verdict → BarBox → List ℕ → BarBox → Step
-judged_of Accepted b sheet after = record { printed = row_lines (b.count + 1) 0 sheet; after = after; stops = false }
-judged_of (Denied r) b sheet after = refused_step b (By r)
+judged_of (Ok tt) b sheet after = record { printed = row_lines (b.count + 1) 0 sheet; after = after; stops = false }
+judged_of (Err r) b sheet after = refused_step b (By r)
 
 -- a bar is fed by itself, with a sheet for its row
 unfoldable pub fed_step : BarBox → Bar → Step

@@ -83,7 +83,7 @@ fn feed_bar(held: BarBox, bar: Bar, out: &mut [u8], at: usize) -> Stepped
     // a refused feed leaves the box as it was, so that no second one is kept for it
     let after = fed.after;
     match verdict {
-        Verdict::Denied(why) => {
+        Err(why) => {
             let end = print_refusal(ordinal, Stop::By(why), out, at);
             Stepped {
                 held: after,
@@ -91,7 +91,7 @@ fn feed_bar(held: BarBox, bar: Bar, out: &mut [u8], at: usize) -> Stepped
                 at: end,
             }
         }
-        Verdict::Accepted => {
+        Ok(()) => {
             let end = print_rows(ordinal, sheet, out, at);
             Stepped {
                 held: after,

@@ -1,4 +1,5 @@
 -- A feed of a part of the bars, on its part of the sheet, after feeds of those before them; without and with a tally. Assumes nothing.
+use Rattle.std.specs.Prelude.{Ok}
 use Prim.Native.Nat.{ℕ, ◌+◌, ◌-◌, ◌*◌, ◌≤◌}
 use mathlib.Core.Path.{◌≡◌, sym, ◌∙◌}
 use mathlib.Core.Bool.{Bool, cond}
@@ -12,7 +13,6 @@ use Rattle.measures.specs.Bar.{Bar, bars_of, overlay}
 use Rattle.measures.proofs.Overlay.{length-overlay}
 use Rattle.measures.proofs.RunLaws.{length-bars, bars-drop, bars-take}
 use Rattle.recognisers.specs.Number.{places, row_bytes}
-use Rattle.answers.specs.declared.refusals.Verdict.TheVariants.{Accepted}
 use Rattle.box_record.specs.declared.boxes.BarBox.{BarBox}
 use Rattle.recognisers.specs.Refusal.{feed_verdict}
 use Rattle.bar_box.specs.Box.{kept, taken_in, fed_of, sheet_of}
@@ -47,7 +47,7 @@ pub length-written : (b : BarBox) (bars : List Bar) (s : List ℕ) (n : ℕ) →
 length-written b bars s n room = length-overlay s 0 (rows_from b (take n bars)) (omega (arith, length-rows b.thresholds b.count (kept b) (take n bars), length-take n bars))
 
 -- a feed ps on s₀ to b is accepted; of its bars those before a bar are taken in, s is the sheet with their rows, and n more are to be fed
-module _ (b : BarBox) (all : length b.bars ≡ places) (tally : List TallyRow) (ps : List Float) (s₀ s : List ℕ) (whole : verdict_with b tally (lent ps s₀) ≡ Accepted) (passed n : ℕ) (enough : passed + n ≤ length (bars_of ps)) (size : length s ≡ length s₀) (is : s ≡ overlay s₀ 0 (rows_from b (take passed (bars_of ps)))) where
+module _ (b : BarBox) (all : length b.bars ≡ places) (tally : List TallyRow) (ps : List Float) (s₀ s : List ℕ) (whole : verdict_with b tally (lent ps s₀) ≡ Ok tt) (passed n : ℕ) (enough : passed + n ≤ length (bars_of ps)) (size : length s ≡ length s₀) (is : s ≡ overlay s₀ 0 (rows_from b (take passed (bars_of ps)))) where
   abbrev before : List Bar
   before = take passed (bars_of ps)
 
@@ -57,7 +57,7 @@ module _ (b : BarBox) (all : length b.bars ≡ places) (tally : List TallyRow) (
   abbrev later : List Bar
   later = take (passed + n) (bars_of ps)
 
-  accepted : feed_verdict b.thresholds (taken_in b before).count (length part.prices) (length part.sheet) ≡ Accepted
+  accepted : feed_verdict b.thresholds (taken_in b before).count (length part.prices) (length part.sheet) ≡ Ok tt
   accepted =
       let f = fits _ _ _ _ (accepted-plain b tally (lent ps s₀) whole) in
       let total = length-bars ps in
@@ -89,12 +89,12 @@ module _ (b : BarBox) (all : length b.bars ≡ places) (tally : List TallyRow) (
     abbrev counts : List TallyRow
     counts = counted (rows_from b before) tally
 
-    accepted-with : verdict_with (taken_in b before) counts part ≡ Accepted
+    accepted-with : verdict_with (taken_in b before) counts part ≡ Ok tt
     accepted-with =
         plain-verdict _ _ counts _ _ (parts_add b all tally shaped before (accepted-adds _ _ tally _ _ whole)) ∙ accepted
 
     -- and are counted
-    pub next-tallied : tallied_of (taken_in b before) counts part ≡ record { verdict = Accepted; after = taken_in b later; tally = counted (rows_from b later) tally }
+    pub next-tallied : tallied_of (taken_in b before) counts part ≡ record { verdict = Ok tt; after = taken_in b later; tally = counted (rows_from b later) tally }
     next-tallied =
         tallied-accepted (taken_in b before) counts part accepted-with
         ∙ rw (taken_more, part-bars ps passed n, parts-counted b all tally shaped before (take n (drop passed (bars_of ps))), take-add passed n (bars_of ps))

@@ -1,6 +1,6 @@
 // Feeds of any sizes, one after the other, which leave what one feed of all the bars does.
 ghost use Rattle.std.specs.Prelude.{◌≡◌, cond, ◌≤◌, min, ltb, length, get_or};
-ghost use Rattle.answers.specs.declared.refusals.Verdict.TheVariants.{Accepted};
+ghost use Rattle.std.specs.Prelude.{Ok};
 ghost use Rattle.tallies.specs.Tally.{Shaped};
 ghost use Rattle.tallies.specs.Feed.{lent, verdict_with, tallied_of, tallied_sheet};
 
@@ -31,7 +31,7 @@ fn take_parts(
     prices: &[f64],
     sheet: &mut [u8],
 ) -> Tallied
-    requires { (verdict_with b tally (lent prices.now sheet.old) ≡ Accepted) × (Shaped tally) }
+    requires { (verdict_with b tally (lent prices.now sheet.old) ≡ Ok tt) × (Shaped tally) }
     ensures { let f = lent prices.now sheet.old in
         let one = tallied_of b tally f in
         (result ≡ record { verdict = one.verdict; after = one.after; tally = cond counts one.tally tally }) × (sheet.new ≡ tallied_sheet b tally f) }
@@ -40,7 +40,7 @@ fn take_parts(
     // what a feed hands back is kept as it is: a box that is taken out of it is copied
     let mut out = Outcome {
         after: b,
-        verdict: Verdict::Accepted,
+        verdict: Ok(()),
     };
     let mut table = tally;
     let mut done = 0usize;
@@ -66,7 +66,7 @@ fn take_parts(
     }
     let after = out.after;
     Tallied {
-        verdict: Verdict::Accepted,
+        verdict: Ok(()),
         after,
         tally: table,
     }
@@ -88,11 +88,11 @@ pub fn feed_parts(
 {
     let t = b.thresholds;
     match tally_verdict(t, b.count, tally, prices.len(), sheet.len()) {
-        Verdict::Denied(why) => Tallied {
-            verdict: Verdict::Denied(why),
+        Err(why) => Tallied {
+            verdict: Err(why),
             after: b,
             tally,
         },
-        Verdict::Accepted => take_parts(b, counts, tally, sizes, prices, sheet),
+        Ok(()) => take_parts(b, counts, tally, sizes, prices, sheet),
     }
 }

@@ -1,4 +1,7 @@
 -- The number and codes of a plain call's answer. Assumes nothing.
+use Rattle.std.specs.Prelude.{Err, Ok}
+use Rattle.answers.specs.Refusal.{Verdict}
+use Rattle.answers.specs.Answer.{Answer}
 use Prim.Native.Nat.{ℕ}
 use mathlib.Core.Path.{◌≡◌, refl}
 use mathlib.Core.Bool.{Bool}
@@ -9,16 +12,14 @@ use Rattle.rule_types.specs.declared.label.Pair.{Pair}
 use Rattle.thresholds.specs.declared.Thresholds.{Thresholds}
 use Rattle.rule_table.specs.Table.{pair_at}
 use Rattle.rule_types.specs.Label.{codes_of}
-use Rattle.answers.specs.declared.refusals.Verdict.{Verdict, TheVariants.Accepted, TheVariants.Denied}
-use Rattle.answers.specs.declared.Answer.{Answer, TheVariants.Labels}
 use Rattle.answers.specs.Refusal.{verdict_number, leaves, plain_verdict}
 use Rattle.answers.specs.Answer.{answer_to, refusal_in, codes_in}
 use Rattle.recognisers.specs.Call.{plain_answer, plain_number, plain_codes}
 
 values-in : (v : Verdict) (pair : Pair)
-    → (refusal_in (answer_to v (Labels pair)) ≡ verdict_number v) × (codes_in (answer_to v (Labels pair)) ≡ leaves v [] (codes_of (pair ∷ [])))
-values-in Accepted pair = (refl, refl)
-values-in (Denied r) pair = (refl, refl)
+    → (refusal_in (answer_to v (Ok pair)) ≡ verdict_number v) × (codes_in (answer_to v (Ok pair)) ≡ leaves v [] (codes_of (pair ∷ [])))
+values-in (Ok tt) pair = (refl, refl)
+values-in (Err r) pair = (refl, refl)
 
 -- what a plain call ensures of its answer
 abbrev pub Answers : ℕ → ℕ → Thresholds → Bool → List Bar → Answer → Type 0

@@ -1,8 +1,9 @@
 -- The plain call, which tries 1 to 5.
+use Rattle.std.specs.Prelude.{Ok}
+use Rattle.answers.specs.Answer.{Answer}
 use Rattle.std.specs.Prelude.{ℕ, ◌%◌, Bool, List, [], ◌∷◌, eqb, length, Float}
 use Rattle.measures.specs.Bar.{Bar, bars_of}
 use Rattle.thresholds.specs.declared.Thresholds.{Thresholds}
-use Rattle.answers.specs.declared.Answer.{Answer, TheVariants.Labels}
 use Rattle.answers.specs.Refusal.{verdict_number, leaves, plain_verdict}
 use Rattle.answers.specs.Answer.{answer_to}
 use Rattle.rule_types.specs.Label.{codes_of}
@@ -11,7 +12,7 @@ use Rattle.rule_table.specs.Table.{pair_at}
 -- the answer of a plain call: recogniser, offset, thresholds, history
 unfoldable pub plain_answer : ℕ → ℕ → Thresholds → Bool → List Bar → Answer
 plain_answer k di t whole history =
-    answer_to (plain_verdict k di t whole (length history)) (Labels (pair_at k t (length history) history di))
+    answer_to (plain_verdict k di t whole (length history)) (Ok (pair_at k t (length history) history di))
 
 -- its number, and its codes: none of a refusal
 abbrev pub plain_number : ℕ → ℕ → Thresholds → Bool → List Bar → ℕ

@@ -10,14 +10,14 @@ use rule_table::table;
 use thresholds::Thresholds;
 
 // The plain call: the pair of a recogniser at an offset of a history of lent prices, or the first refusal that is true.
-pub fn recognise(k: u32, di: u32, t: Thresholds, prices: &[f64]) -> Answer
+pub fn recognise(k: u32, di: u32, t: Thresholds, prices: &[f64]) -> Result<Pair, Refusal>
     ensures answer { result ≡ recognise_of k di t prices.now }
     ensures number { refusal_in result ≡ plain_number k di t (eqb (length prices.now % 4) 0) (bars_of prices.now) }
     ensures codes { codes_in result ≡ plain_codes k di t (eqb (length prices.now % 4) 0) (bars_of prices.now) }
 {
     let len = measures::count(prices);
     match plain_verdict(k, di, t, prices.len() % 4 == 0, len) {
-        Verdict::Denied(why) => Answer::Refused(why),
-        Verdict::Accepted => { Answer::Labels(table::pair_at(k, t, len, prices, di as usize)) }
+        Err(why) => Err(why),
+        Ok(()) => { Ok(table::pair_at(k, t, len, prices, di as usize)) }
     }
 }

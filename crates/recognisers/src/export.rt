@@ -146,7 +146,7 @@ pub fn jcc_label(
     );
     let n = bars.len();
     match plain_verdict(recogniser, offset, t, n % BAR_BYTES == 0, n / BAR_BYTES) {
-        Verdict::Denied(why) => answer_number(Answer::Refused(why)),
-        Verdict::Accepted => { answer_number(Answer::Labels(pair_at(recogniser, t, offset, bars))) }
+        Err(why) => answer_number(Err(why)),
+        Ok(()) => { answer_number(Ok(pair_at(recogniser, t, offset, bars))) }
     }
 }

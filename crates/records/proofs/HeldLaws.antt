@@ -1,4 +1,5 @@
 -- Windows held by value: one bar more, the window of a history, and the answer out of two windows. Assumes nothing.
+use Rattle.std.specs.Prelude.{Ok}
 use Prim.Native.Nat.{ℕ, ◌+◌, ◌-◌, ◌*◌, ◌≤◌, ◌<◌, min}
 use mathlib.Core.Path.{◌≡◌, refl, ap, ◌∙◌}
 use mathlib.Core.Bool.{true, cond}
@@ -16,7 +17,6 @@ use Rattle.measures.proofs.WindowLaws.{window-part}
 use Rattle.recognisers.proofs.Reach.{pair-near}
 use Rattle.recognisers.specs.Threshold.{Thresholds}
 use Rattle.recognisers.specs.Label.{Pair}
-use Rattle.answers.specs.declared.Answer.TheVariants.{Labels}
 use Rattle.recognisers.specs.Number.{gated, reach_bars, quarter_bars, gate_end}
 use Rattle.recognisers.specs.Table.{judge_of}
 use Rattle.recognisers.specs.Refusal.{answer_to, plain_verdict}
@@ -80,8 +80,8 @@ window-gathered r s bars di n at got =
 
 -- the answer out of the windows of a history is the plain call's; a recogniser without a gate has an empty one
 pub answer-held : (k di : ℕ) (t : Thresholds) (bars : List Bar) (w gate : Window) (n : ℕ) → let len = length bars in n ≡ cond (eqb k gated) quarter_bars 0 → window_bars w ≡ window_of bars di reach_bars
-    → window_bars gate ≡ window_of bars gate_end n → answer_to (plain_verdict k di t true len) (Labels (judge_of k t len (up_to len di) (window_bars w) (window_bars gate))) ≡ plain_answer k di t true bars
+    → window_bars gate ≡ window_of bars gate_end n → answer_to (plain_verdict k di t true len) (Ok (judge_of k t len (up_to len di) (window_bars w) (window_bars gate))) ≡ plain_answer k di t true bars
 unfolding plain_answer
 answer-held k di t bars w gate n c e f =
     let len = length bars in
-    rw (pair-near k t len bars di, e, f, c) (ap (λ (pair : Pair). answer_to (plain_verdict k di t true len) (Labels pair)) (gate-enough k t len (up_to len di) (window_of bars di reach_bars) bars))
+    rw (pair-near k t len bars di, e, f, c) (ap (λ (pair : Pair). answer_to (plain_verdict k di t true len) (Ok pair)) (gate-enough k t len (up_to len di) (window_of bars di reach_bars) bars))

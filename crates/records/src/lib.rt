@@ -5,7 +5,7 @@
 ghost use Rattle.std.specs.Prelude.{◌≡◌, true, ◌+◌, ◌-◌, ◌≤◌, length, take, drop};
 ghost use Prim.Native.Nat as Nat;
 ghost use Rattle.measures.specs.Window.{up_to, window_of};
-ghost use Rattle.answers.specs.declared.Answer.TheVariants.{Labels};
+ghost use Rattle.std.specs.Prelude.{Ok};
 ghost use Rattle.recognisers.specs.Number.{reach_bars};
 ghost use Rattle.recognisers.specs.Threshold.{thresholds_of};
 ghost use Rattle.recognisers.specs.Table.{judge_of};
@@ -88,18 +88,18 @@ fn pair_in(k: u32, t: Thresholds, len: usize, di: u32, w: Window, gate: Window) 
 }
 
 // The answer of a plain call over a history of len bars, out of those windows.
-fn answer(k: u32, di: u32, t: Thresholds, len: usize, w: Window, gate: Window) -> Answer
+fn answer(k: u32, di: u32, t: Thresholds, len: usize, w: Window, gate: Window) -> Result<Pair, Refusal>
     requires { (w.count ≤ reach_bars) × (gate.count ≤ reach_bars) }
-    ensures { result ≡ answer_to (plain_verdict k di t true len) (Labels (judge_of k t len (up_to len di) (window_bars w) (window_bars gate))) }
+    ensures { result ≡ answer_to (plain_verdict k di t true len) (Ok (judge_of k t len (up_to len di) (window_bars w) (window_bars gate))) }
 {
     match plain_verdict(k, di, t, true, len) {
-        Verdict::Denied(why) => Answer::Refused(why),
-        Verdict::Accepted => { Answer::Labels(pair_in(k, t, len, di, w, gate)) }
+        Err(why) => Err(why),
+        Ok(()) => { Ok(pair_in(k, t, len, di, w, gate)) }
     }
 }
 
 // The plain call: as recognisers::recognise, which is lent prices. Records are whole bars, so that refusal 4 can't arise.
-pub fn recognise_bars(k: u32, di: u32, t: Thresholds, bars: &[Bar]) -> Answer
+pub fn recognise_bars(k: u32, di: u32, t: Thresholds, bars: &[Bar]) -> Result<Pair, Refusal>
     ensures { (result ≡ plain_answer k di t true bars.now)
         × ((refusal_in result ≡ plain_number k di t true bars.now) × (codes_in result ≡ plain_codes k di t true bars.now)) }
 {

@@ -1,4 +1,5 @@
 -- A feed with a tally beside one without: its verdict, and what an accepted one leaves. Assumes nothing.
+use Rattle.std.specs.Prelude.{Err, Ok}
 use Prim.Native.Nat.{ℕ, ◌+◌, ◌*◌}
 use mathlib.Core.Bool.{true}
 use mathlib.Core.List.{List}
@@ -11,7 +12,6 @@ use Rattle.recognisers.specs.Number.{row_bytes}
 use Rattle.recognisers.specs.Threshold.{Thresholds}
 use Rattle.recognisers.specs.Refusal.{first_true, next_after, feed_tried, feed_verdict}
 use Rattle.answers.specs.declared.refusals.Refusal.{Refusal}
-use Rattle.answers.specs.declared.refusals.Verdict.TheVariants.{Accepted, Denied}
 use Rattle.box_record.specs.declared.boxes.BarBox.{BarBox}
 use Rattle.bar_box.specs.Sheet.{rows_of}
 use Rattle.bar_box.specs.Box.{kept, taken_in, fed_of, sheet_of}
@@ -31,7 +31,7 @@ module _ (t : Thresholds) (n : ℕ) (tally : List TallyRow) (prices : ℕ) where
   plain-verdict sheet adds = rw adds
 
   -- where it is accepted, the tally adds up
-  pub accepted-adds : (sheet : ℕ) → tally_verdict t n tally prices sheet ≡ Accepted → adds_up n tally ≡ true
+  pub accepted-adds : (sheet : ℕ) → tally_verdict t n tally prices sheet ≡ Ok tt → adds_up n tally ≡ true
   unfolding tally_verdict feed_tried next_after
   accepted-adds sheet e =
       let three = none_true _ _ e in
@@ -42,16 +42,16 @@ module _ (t : Thresholds) (n : ℕ) (tally : List TallyRow) (prices : ℕ) where
 -- ---- what a feed leaves
 
 module _ (b : BarBox) (tally : List TallyRow) (f : Feed) where
-  pub tallied-refused : (r : Refusal) → verdict_with b tally f ≡ Denied r → tallied_of b tally f ≡ record { verdict = Denied r; after = b; tally = tally }
+  pub tallied-refused : (r : Refusal) → verdict_with b tally f ≡ Err r → tallied_of b tally f ≡ record { verdict = Err r; after = b; tally = tally }
   unfolding tallied_of
   tallied-refused r e = rw e
 
   -- the verdict of the same feed without a tally
-  pub accepted-plain : verdict_with b tally f ≡ Accepted → feed_verdict b.thresholds b.count (length f.prices) (length f.sheet) ≡ Accepted
+  pub accepted-plain : verdict_with b tally f ≡ Ok tt → feed_verdict b.thresholds b.count (length f.prices) (length f.sheet) ≡ Ok tt
   accepted-plain e =
       sym (plain-verdict b.thresholds b.count tally (length f.prices) (length f.sheet) (accepted-adds b.thresholds b.count tally (length f.prices) (length f.sheet) e)) ∙ e
 
-  module _ (e : verdict_with b tally f ≡ Accepted) where
+  module _ (e : verdict_with b tally f ≡ Ok tt) where
     abbrev rows : List ℕ
     rows = rows_of b.thresholds b.count (kept b) (bars_of f.prices)
 
@@ -66,6 +66,6 @@ module _ (b : BarBox) (tally : List TallyRow) (f : Feed) where
     rows_written =
         rw (accepted-plain e) (take_at rows (drop (0 + length rows) f.sheet) (row_bytes * length (bars_of f.prices)) (length-rows b.thresholds b.count (kept b) (bars_of f.prices)))
 
-    pub tallied-accepted : tallied_of b tally f ≡ record { verdict = Accepted; after = taken_in b (bars_of f.prices); tally = counted rows tally }
+    pub tallied-accepted : tallied_of b tally f ≡ record { verdict = Ok tt; after = taken_in b (bars_of f.prices); tally = counted rows tally }
     unfolding tallied_of fed_of
     tallied-accepted = rw (e, accepted-plain e, rows_written)

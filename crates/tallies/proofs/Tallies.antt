@@ -1,4 +1,6 @@
 -- What every list of feeds with a tally leaves, from a box without bars and the fresh tally. Assumes nothing.
+use Rattle.std.specs.Prelude.{Err, Ok}
+use Rattle.answers.specs.Refusal.{Verdict}
 use Prim.Native.Nat.{ℕ, ◌+◌, ◌*◌, ◌/◌, ◌≤◌, ◌<◌}
 use mathlib.Core.Bool.{true}
 use mathlib.Core.List.{List, [], ◌++◌, flatten}
@@ -13,7 +15,6 @@ use Rattle.recognisers.specs.Number.{recognisers, labels, row_bytes}
 use Rattle.recognisers.specs.Label.{code_of}
 use Rattle.recognisers.specs.Table.{pair_at, codes_of}
 use Rattle.recognisers.specs.Threshold.{Thresholds}
-use Rattle.answers.specs.declared.refusals.Verdict.{Verdict, TheVariants.Accepted, TheVariants.Denied}
 use Rattle.box_record.specs.declared.boxes.BarBox.{BarBox}
 use Rattle.bar_box.specs.Sheet.{rows_of}
 use Rattle.bar_box.specs.Box.{taken_in, fed_of, sheet_of}
@@ -57,10 +58,10 @@ tally-adds t h =
 -- by the verdict of a feed, the tally after it is that of the history after it
 tally-by : (t : Thresholds) (v : Verdict) (h bars : List Bar)
     → leaves v (tally_of t h) (counted (leaves v [] (rows_of t (length h) h bars)) (tally_of t h)) ≡ tally_of t (leaves v h (h ++ bars))
-tally-by t Accepted h bars =
+tally-by t (Ok tt) h bars =
     counted-append fresh_tally fresh-shaped (rows_of t 0 [] h) (rows_of t (length h) h bars) (length h) (length-rows t 0 [] h)
     ∙ ap (λ (rows : List ℕ). counted rows fresh_tally) (sym (rows_append t 0 [] h bars ∙ rw zero-add))
-tally-by t (Denied r) h bars = refl
+tally-by t (Err r) h bars = refl
 
 -- ---- one feed to the box and tally that a history left
 
@@ -80,13 +81,13 @@ module _ (b : BarBox) (start : NoBars b) where
   -- a refusal leaves what was there, as the feed without a tally does
   leaves-fed : (v : Verdict) (h : List Bar) (f : Feed) → (fed (taken_in b h) f).verdict ≡ v → leaves v (taken_in b h) (fed (taken_in b h) f).after ≡ (fed (taken_in b h) f).after
   unfolding fed_of
-  leaves-fed Accepted h f e = refl
-  leaves-fed (Denied r) h f e = rw e
+  leaves-fed (Ok tt) h f e = refl
+  leaves-fed (Err r) h f e = rw e
 
   leaves-sheet : (v : Verdict) (h : List Bar) (f : Feed) → (fed (taken_in b h) f).verdict ≡ v → leaves v f.sheet (sheet_of (taken_in b h) f.prices f.sheet) ≡ sheet_of (taken_in b h) f.prices f.sheet
   unfolding fed_of sheet_of
-  leaves-sheet Accepted h f e = refl
-  leaves-sheet (Denied r) h f e = rw e
+  leaves-sheet (Ok tt) h f e = refl
+  leaves-sheet (Err r) h f e = rw e
 
   -- what it leaves
   pub tallied-step : (h : List Bar) (f : Feed)
@@ -177,8 +178,8 @@ module _ (b : BarBox) (start : NoBars b) (fs : List Feed) where
 
     -- one feed of the joined history: where it is refused there is no row
     one-by : (v : Verdict) → (fed b one).verdict ≡ v → leaves v fresh_tally (counted (rows_in b one) fresh_tally) ≡ counted (rows_in b one) fresh_tally
-    one-by Accepted e = refl
-    one-by (Denied r) e = sym (rw e (none-counted fresh_tally))
+    one-by (Ok tt) e = refl
+    one-by (Err r) e = sym (rw e (none-counted fresh_tally))
 
     one-tally : (tallied_of b fresh_tally one).tally ≡ tally_of b.thresholds joined
     unfolding tallied_of

@@ -1,8 +1,8 @@
 -- A feed with a tally, for every box and tally that a caller can hand in.
+use Rattle.answers.specs.Refusal.{Verdict}
 use Rattle.std.specs.Prelude.{ℕ, not, List, [], ◌∷◌, length, Float}
 use Rattle.recognisers.specs.Threshold.{Thresholds}
 use Rattle.answers.specs.declared.refusals.Refusal.TheVariants.{TooManyBars}
-use Rattle.answers.specs.declared.refusals.Verdict.{Verdict}
 use Rattle.recognisers.specs.Refusal.{Tried, tried, first_true, next_after, leaves, feed_tried}
 use Rattle.box_record.specs.declared.boxes.BarBox.{BarBox}
 use Rattle.bar_box.specs.Box.{sheet_of}

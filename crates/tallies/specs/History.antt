@@ -1,12 +1,12 @@
 -- What a list of feeds with a tally leaves, said of the list at once. The first part follows the calls; the second says what holds of them,
 -- beside the same list of feeds without a tally, the joined history and the joined rows of demand 3.
+use Rattle.answers.specs.Refusal.{Verdict}
 use Rattle.std.specs.Prelude.{ℕ, ◌+◌, ◌*◌, ◌≤◌, ◌<◌, List, [], ◌≡◌, eqb, length, take}
 use Rattle.measures.specs.Bar.{Bar, bars_of}
 use Rattle.recognisers.specs.Number.{recognisers, labels, row_bytes}
 use Rattle.recognisers.specs.Label.{code_of}
 use Rattle.recognisers.specs.Table.{pair_at}
 use Rattle.recognisers.specs.Threshold.{Thresholds}
-use Rattle.answers.specs.declared.refusals.Verdict.{Verdict}
 use Rattle.box_record.specs.declared.boxes.BarBox.{BarBox}
 use Rattle.bar_box.specs.Box.{sheet_of}
 use Rattle.recognisers.specs.Refusal.{leaves}

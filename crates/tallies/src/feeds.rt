@@ -14,7 +14,7 @@ use recognisers::{Thresholds, Verdict};
 // Whether a feed is refused, and the box and the tally after it.
 #[derive(Clone, Copy)]
 pub struct Tallied {
-    pub verdict: Verdict,
+    pub verdict: Result<(), Refusal>,
     pub after: BarBox,
     pub tally: [TallyRow; RECOGNISERS],
 }
@@ -27,7 +27,7 @@ pub fn tally_verdict(
     tally: [TallyRow; RECOGNISERS],
     prices: usize,
     sheet: usize,
-) -> Verdict
+) -> Result<(), Refusal>
     ensures { (result ≡ tally_verdict t n tally prices sheet) × (Shaped tally) }
 {
     let right = table::adds_up(tally, n);
@@ -42,17 +42,17 @@ pub fn feed(b: BarBox, tally: [TallyRow; RECOGNISERS], prices: &[f64], sheet: &m
     let t = b.thresholds;
     let n = b.count;
     match tally_verdict(t, n, tally, prices.len(), sheet.len()) {
-        Verdict::Denied(why) => Tallied {
-            verdict: Verdict::Denied(why),
+        Err(why) => Tallied {
+            verdict: Err(why),
             after: b,
             tally,
         },
-        Verdict::Accepted => {
+        Ok(()) => {
             let fed = bar_box::feed(b, prices, sheet);
             let after = fed.after;
             let bytes = ROW_BYTES * measures::count(prices);
             Tallied {
-                verdict: Verdict::Accepted,
+                verdict: Ok(()),
                 after,
                 tally: counts::count(tally, n, &sheet[..bytes]),
             }

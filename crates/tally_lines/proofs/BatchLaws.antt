@@ -1,4 +1,6 @@
 -- Bars that are fed at once leave what feeding them one by one does. Assumes nothing.
+use Rattle.std.specs.Prelude.{Err, Ok}
+use Rattle.answers.specs.Refusal.{Verdict}
 use Prim.Native.Nat.{ℕ, suc, ◌+◌, ◌*◌, ◌/◌, ◌%◌, ◌≤◌, ◌<◌}
 use mathlib.Core.Bool.{true}
 use mathlib.Core.List.{List, [], ◌∷◌, ◌++◌}
@@ -10,7 +12,6 @@ use lib.ListN.{length}
 use lib.Ieee.{Float}
 use Rattle.measures.specs.Bar.{Bar, bars_of, prices_of}
 use Rattle.answers.specs.declared.refusals.Refusal.{Refusal}
-use Rattle.answers.specs.declared.refusals.Verdict.{Verdict, TheVariants.Accepted, TheVariants.Denied}
 use Rattle.recognisers.specs.Number.{row_bytes, most_bars, places}
 use Rattle.recognisers.specs.Refusal.{bad_threshold, too_many_bars, first_true, next_after, feed_tried}
 use Rattle.recognisers.specs.Threshold.{valid_of}
@@ -56,7 +57,7 @@ module _ (b : BarBox) (tally : List TallyRow) where
 
 -- what they leave
 abbrev all_taken : BarBox → List TallyRow → List Bar → Tallied
-all_taken b tally bars = record { verdict = Accepted; after = taken_in b bars; tally = counted (rows_from b bars) tally }
+all_taken b tally bars = record { verdict = Ok tt; after = taken_in b bars; tally = counted (rows_from b bars) tally }
 
 -- none of the refusals that concern so many bars is true
 record Fit (b : BarBox) (tally : List TallyRow) (n : ℕ) : Type 0 where
@@ -64,11 +65,11 @@ record Fit (b : BarBox) (tally : List TallyRow) (n : ℕ) : Type 0 where
   few : b.count + n ≤ most_bars
   adds : adds_up b.count tally ≡ true
 
-fit-accepted : (b : BarBox) (tally : List TallyRow) (n : ℕ) → Fit b tally n → verdict_for b tally n ≡ Accepted
+fit-accepted : (b : BarBox) (tally : List TallyRow) (n : ℕ) → Fit b tally n → verdict_for b tally n ≡ Ok tt
 unfolding first_true
 fit-accepted b tally n f = rw (f.valid, le-ltb most_bars (b.count + n) f.few, f.adds)
 
-one-taken : (b : BarBox) (tally : List TallyRow) (bar : Bar) → verdict_for b tally 1 ≡ Accepted → tallied_of b tally (bar_feed bar) ≡ all_taken b tally (bar ∷ [])
+one-taken : (b : BarBox) (tally : List TallyRow) (bar : Bar) → verdict_for b tally 1 ≡ Ok tt → tallied_of b tally (bar_feed bar) ≡ all_taken b tally (bar ∷ [])
 unfolding bars_of prices_of
 one-taken b tally bar e = tallied-accepted b tally (bar_feed bar) (one-verdict b tally bar ∙ e)
 
@@ -86,8 +87,8 @@ all-fed b all tally shaped bar (next ∷ bars) f =
     rw (one-taken b tally bar (fit-accepted b tally 1 one), later, taken-append b all first (next ∷ bars), parts-counted b all tally shaped first (next ∷ bars))
 
 -- ---- refused ones: the first of them is, and no more is fed
-first-refused : (b : BarBox) (tally : List TallyRow) (bar : Bar) (bars : List Bar) (r : Refusal) → tallied_of b tally (bar_feed bar) ≡ record { verdict = Denied r; after = b; tally = tally }
-    → fed_all b tally (bar ∷ bars) ≡ record { verdict = Denied r; after = b; tally = tally }
+first-refused : (b : BarBox) (tally : List TallyRow) (bar : Bar) (bars : List Bar) (r : Refusal) → tallied_of b tally (bar_feed bar) ≡ record { verdict = Err r; after = b; tally = tally }
+    → fed_all b tally (bar ∷ bars) ≡ record { verdict = Err r; after = b; tally = tally }
 unfolding fed_all
 first-refused b tally bar bars r e = rw e
 
@@ -96,12 +97,12 @@ module _ (b : BarBox) (all : length b.bars ≡ places) (tally : List TallyRow) (
   by-verdict : (bars : List Bar) → bars_of ps ≡ bars → length ps ≡ 4 * length bars → 1 ≤ length bars → (1 < length bars → b.count + length bars ≤ most_bars)
       → row_bytes * length bars ≤ length sheet → (v : Verdict) → verdict_for b tally (length bars) ≡ v → tallied_of b tally (lent ps sheet) ≡ fed_all b tally bars
   by-verdict [] is whole some few room v e = absurd (let z : ⊥ = omega arith in z)
-  by-verdict (bar ∷ bars) is whole some few room (Denied r) e =
+  by-verdict (bar ∷ bars) is whole some few room (Err r) e =
       let first = tallied-refused b tally (bar_feed bar) r (one-verdict b tally bar ∙ same-verdict b tally (suc (length bars)) some few ∙ e) in
       let both = tallied-refused b tally (lent ps sheet) r (verdict-bars b tally (suc (length bars)) (length ps) (length sheet) whole room ∙ e) in
       both ∙ sym (first-refused b tally bar bars r first)
-  by-verdict (bar ∷ bars) is whole some few room Accepted e =
-      let accepted : verdict_with b tally (lent ps sheet) ≡ Accepted = verdict-bars b tally (suc (length bars)) (length ps) (length sheet) whole room ∙ e in
+  by-verdict (bar ∷ bars) is whole some few room (Ok tt) e =
+      let accepted : verdict_with b tally (lent ps sheet) ≡ Ok tt = verdict-bars b tally (suc (length bars)) (length ps) (length sheet) whole room ∙ e in
       let met = fits b.thresholds b.count (length ps) (length sheet) (accepted-plain b tally (lent ps sheet) accepted) in
       let f : Fit b tally (suc (length bars)) =
       record { valid = met.valid; few = omega (arith, met.few); adds = accepted-adds b.thresholds b.count tally (length ps) (length sheet) accepted } in
@@ -117,6 +118,6 @@ unfolding bars_of
 none-bars [] e = refl
 none-bars (p ∷ ps) e = absurd (let z : ⊥ = omega arith in z)
 
-pub none-fed : (b : BarBox) (tally : List TallyRow) (ps : List Float) → length ps ≡ 0 → record { verdict = Accepted; after = b; tally = tally } ≡ fed_all b tally (bars_of ps)
+pub none-fed : (b : BarBox) (tally : List TallyRow) (ps : List Float) → length ps ≡ 0 → record { verdict = Ok tt; after = b; tally = tally } ≡ fed_all b tally (bars_of ps)
 unfolding fed_all
 none-fed b tally ps e = rw (none-bars ps e)

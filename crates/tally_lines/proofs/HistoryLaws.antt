@@ -1,11 +1,11 @@
 -- One more bar, fed to the box and the tally that a history left. Assumes nothing.
+use Rattle.std.specs.Prelude.{Err, Ok}
 use Prim.Native.Nat.{◌+◌, ◌≤◌}
 use mathlib.Core.List.{List, [], ◌∷◌, ◌++◌}
 use mathlib.Core.Path.{◌≡◌, sym, ◌∙◌}
 use lib.ListN.{length}
 use Rattle.measures.specs.Bar.{Bar, bars_of, prices_of}
 use Rattle.answers.specs.declared.refusals.Refusal.TheVariants as refusal
-use Rattle.answers.specs.declared.refusals.Verdict.TheVariants.{Accepted, Denied}
 use Rattle.recognisers.specs.Number.{most_bars}
 use Rattle.recognisers.specs.Threshold.{standard_set}
 use Rattle.bar_box.proofs.FeedSteps.{count-after, verdict-step}
@@ -36,12 +36,12 @@ tally-fresh = tally-is [] ∙ tally-none standard_set
 module _ (h : List Bar) (bar : Bar) where
   -- up to the most bars it is accepted
   pub fed-more : length h + 1 ≤ most_bars
-      → tallied_of (box_of h) (history_tally h) (bar_feed bar) ≡ record { verdict = Accepted; after = box_of (h ++ (bar ∷ [])); tally = history_tally (h ++ (bar ∷ [])) }
+      → tallied_of (box_of h) (history_tally h) (bar_feed bar) ≡ record { verdict = Ok tt; after = box_of (h ++ (bar ∷ [])); tally = history_tally (h ++ (bar ∷ [])) }
   unfolding bars_of prices_of
   fed-more few =
       rw (tally-is h, tally-is (h ++ (bar ∷ []))) (tallied-step fresh start h (bar_feed bar) ∙ rw (verdict-step fresh start h (bar_feed bar), accepted h bar few))
 
   -- past them it is refused
   pub fed-past : length h ≡ most_bars
-      → tallied_of (box_of h) (history_tally h) (bar_feed bar) ≡ record { verdict = Denied refusal.TooManyBars; after = box_of h; tally = history_tally h }
+      → tallied_of (box_of h) (history_tally h) (bar_feed bar) ≡ record { verdict = Err refusal.TooManyBars; after = box_of h; tally = history_tally h }
   fed-past most = rw (tally-is h) (tallied-step fresh start h (bar_feed bar) ∙ rw (verdict-step fresh start h (bar_feed bar), past h bar most))

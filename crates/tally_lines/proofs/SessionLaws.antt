@@ -1,4 +1,6 @@
 -- What bytes leave: fed bars one run behind another, and bytes one run behind another. Assumes nothing.
+use Rattle.std.specs.Prelude.{Err, Ok}
+use Rattle.answers.specs.Refusal.{Verdict}
 use Prim.Native.Nat.{ℕ, ◌≤◌}
 use mathlib.Core.Bool.{Bool, true, false, cond, ◌&&◌}
 use mathlib.Core.List.{List, [], ◌∷◌, ◌++◌}
@@ -8,7 +10,6 @@ use lib.Dec.{ltb}
 use lib.ListN.{length, take, drop, take-append-drop}
 use lib.Seq.{take_all}
 use Rattle.measures.specs.Bar.{Bar}
-use Rattle.answers.specs.declared.refusals.Verdict.{Verdict, TheVariants.Accepted, TheVariants.Denied}
 use Rattle.box_record.specs.declared.boxes.BarBox.{BarBox}
 use Rattle.recognisers.specs.Refusal.{leaves}
 use Rattle.tallies.specs.declared.table.TallyRow.{TallyRow}
@@ -28,8 +29,8 @@ gone_on o bars = leaves o.verdict o (fed_all o.after o.tally bars)
 
 -- by the first one's verdict
 first-fed : (o p q : Tallied) (ys : List Bar) (v : Verdict) → o.verdict ≡ v → q ≡ gone_on p ys → leaves v o q ≡ gone_on (leaves v o p) ys
-first-fed o p q ys Accepted e on = on
-first-fed o p q ys (Denied r) e on = rw e
+first-fed o p q ys (Ok tt) e on = on
+first-fed o p q ys (Err r) e on = rw e
 
 pub fed-append : (b : BarBox) (tally : List TallyRow) (xs ys : List Bar) → fed_all b tally (xs ++ ys) ≡ gone_on (fed_all b tally xs) ys
 unfolding fed_all
@@ -43,15 +44,15 @@ fed-append b tally (x ∷ xs) ys =
 -- behind a refused line nothing changes
 stopped : (o : Tallied) (r : Read) (ys : List ℕ) (v : Verdict) → o.verdict ≡ v → goes_on r.stop ≡ false → settled_by o r ≡ state_after (settled_by o r) ys
 unfolding state_after
-stopped o r ys Accepted e no_more = rw (e, no_more)
-stopped o r ys (Denied why) e no_more = rw e
+stopped o r ys (Ok tt) e no_more = rw (e, no_more)
+stopped o r ys (Err why) e no_more = rw e
 
 -- else reading goes on
 gone-on : (o : Tallied) (r : Read) (ys : List ℕ) (v : Verdict) → o.verdict ≡ v → goes_on r.stop ≡ true
     → let more = read_from [] r.line ys in settled_by (gone_on o more.bars) (behind r.bars more) ≡ state_after (settled_by o r) ys
 unfolding state_after
-gone-on o r ys Accepted e going = rw (e, going)
-gone-on o r ys (Denied why) e going = rw e
+gone-on o r ys (Ok tt) e going = rw (e, going)
+gone-on o r ys (Err why) e going = rw e
 
 settled_on : (b : BarBox) (tally : List TallyRow) (r : Read) (ys : List ℕ) (t : Bool) → goes_on r.stop ≡ t
     → settled b tally (cond t (read_from r.bars r.line ys) r) ≡ state_after (settled b tally r) ys

@@ -1,5 +1,7 @@
 -- What reads leave, and then the input's end prints, is what the input's lines print over the whole history, however it is cut into reads.
 -- Assumes nothing.
+use Rattle.std.specs.Prelude.{Err, Ok}
+use Rattle.answers.specs.Refusal.{Verdict}
 use Prim.Native.Nat.{ℕ, ◌+◌, ◌≤◌}
 use mathlib.Core.Bool.{Bool, true, false, cond}
 use mathlib.Core.List.{List, [], ◌∷◌, ◌++◌, map, flatten, append_assoc, append-nil}
@@ -10,7 +12,6 @@ use lib.Dec.{ltb, eqb}
 use lib.ListN.{length, length-append}
 use Rattle.measures.specs.Bar.{Bar}
 use Rattle.answers.specs.declared.refusals.Refusal.TheVariants as refusal
-use Rattle.answers.specs.declared.refusals.Verdict.{Verdict, TheVariants.Accepted, TheVariants.Denied}
 use Rattle.recognisers.specs.Number.{most_bars}
 use Rattle.recognisers.specs.Refusal.{leaves}
 use Rattle.tallies.specs.Tally.{fresh_tally}
@@ -67,8 +68,8 @@ unfolding closed
 closed_none s e = rw e
 
 by-feed : (v : Verdict) (l : List ℕ) → l ≡ [] → leaves v [] l ≡ []
-by-feed Accepted l e = e
-by-feed (Denied r) l e = refl
+by-feed (Ok tt) l e = e
+by-feed (Err r) l e = refl
 
 after-feed : (h : List Bar) (cur : List ℕ) → (after h (read_from [] cur (line_feed ∷ []))).line ≡ []
 after-feed h cur = by-feed (fed_all (box_of h) (history_tally h) (read_from [] cur (line_feed ∷ [])).bars).verdict (read_from [] cur (line_feed ∷ [])).line (rw (read-feed cur))

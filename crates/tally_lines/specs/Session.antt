@@ -1,9 +1,10 @@
 -- The tally program, read by read: what it holds between two of them, what the bytes of one leave, and what the input's end prints.
 -- That this is what the input's lines print is proved in proofs/Whole.antt.
+use Rattle.std.specs.Prelude.{Err, Ok}
+use Rattle.answers.specs.Refusal.{Verdict}
 use Rattle.std.specs.Prelude.{ℕ, ◌+◌, cond, List, [], ◌∷◌, ◌++◌, eqb, length, replicate}
 use Rattle.measures.specs.Bar.{Bar, prices_of}
 use Rattle.answers.specs.declared.refusals.Refusal.TheVariants as refusal
-use Rattle.answers.specs.declared.refusals.Verdict.{Verdict, TheVariants.Accepted, TheVariants.Denied}
 use Rattle.recognisers.specs.Number.{row_bytes}
 use Rattle.recognisers.specs.Threshold.{standard_set}
 use Rattle.box_record.specs.declared.boxes.BarBox.{BarBox}
@@ -59,7 +60,7 @@ bar_feed bar = lent (prices_of (bar ∷ [])) (replicate row_bytes 0)
 
 -- bars one after the other, up to the first that is refused
 unfoldable pub fed_all : BarBox → List TallyRow → List Bar → Tallied
-fed_all b tally [] = record { verdict = Accepted; after = b; tally = tally }
+fed_all b tally [] = record { verdict = Ok tt; after = b; tally = tally }
 fed_all b tally (bar ∷ bars) = let o = tallied_of b tally (bar_feed bar) in leaves o.verdict o (fed_all o.after o.tally bars)
 
 -- ---- what is held between two reads
@@ -83,8 +84,8 @@ fresh_state = record { line = []; box = fresh_box standard_set; tally = fresh_ta
 
 -- a refused feed refuses its line
 abbrev pub stop_by : Verdict → Stop → Stop
-stop_by Accepted stop = stop
-stop_by (Denied r) stop = By r
+stop_by (Ok tt) stop = stop
+stop_by (Err r) stop = By r
 
 -- what a feed of the bars that were read leaves; behind a bar that is refused, no line has begun
 abbrev pub settled_by : Tallied → Read → State

@@ -71,7 +71,7 @@ fn feed_all(held: BarBox, tally: [TallyRow; RECOGNISERS], prices: &[f64]) -> Tal
 {
     if prices.len() == 0 {
         Tallied {
-            verdict: Verdict::Accepted,
+            verdict: Ok(()),
             after: held,
             tally,
         }
@@ -90,13 +90,13 @@ fn settle(fed: Tallied, got: Gathered) -> Session
     let tally = fed.tally;
     let verdict = fed.verdict;
     match verdict {
-        Verdict::Denied(why) => Session {
+        Err(why) => Session {
             line: lines::begin(),
             held,
             tally,
             stop: Stop::By(why),
         },
-        Verdict::Accepted => {
+        Ok(()) => {
             let line = got.line;
             let stop = got.stop;
             Session {

@@ -1,8 +1,9 @@
 -- Calls to a layer of terms, one after the other, each handed the layer that the one before it left; hours and answers as numbers.
+use Rattle.std.specs.Prelude.{Err, Ok}
+use Rattle.answers.specs.Refusal.{Verdict}
 use Rattle.std.specs.Prelude.{ℕ, zero, suc, ◌+◌, ◌*◌, ◌/◌, min, List, [], ◌∷◌, ◌++◌, length, get_or, take, drop, Float}
 use Rattle.recognisers.specs.Number.{row_bytes}
 use Rattle.recognisers.specs.Refusal.{refusal_number}
-use Rattle.answers.specs.declared.refusals.Verdict.{Verdict, TheVariants.Accepted, TheVariants.Denied}
 use Rattle.trading_hours.specs.declared.hours.{DayWindow.DayWindow, Hours.Hours}
 use Rattle.trading_hours.specs.Hours.{most_windows, window_from, hours_with}
 use Rattle.terms.specs.declared.layers.{Layer.Layer}
@@ -28,8 +29,8 @@ call_of (suc n) prices stamps sheet = Run (take (4 * suc n) prices) (take (suc n
 
 -- how many rows it filled, or 16,777,216 plus its refusal
 abbrev pub answer_by : Verdict → ℕ → ℕ
-answer_by Accepted rows = rows
-answer_by (Denied r) rows = 16777216 + refusal_number r
+answer_by (Ok tt) rows = rows
+answer_by (Err r) rows = 16777216 + refusal_number r
 
 -- the bars that are left, and the sheet behind the rows that were filled, go to the next call
 unfoldable pub answers_of : Layer → List Float → List ℕ → List ℕ → List ℕ → List ℕ

@@ -44,18 +44,18 @@ pub fn hours_of(numbers: &[u32]) -> Hours
 }
 
 // The answer to a call as a number.
-fn answer_number(v: Verdict, rows: usize) -> u32
+fn answer_number(v: Result<(), Refusal>, rows: usize) -> u32
     requires { rows ≤ most_bars }
     ensures { result ≡ answer_by v rows }
 {
     match v {
-        Verdict::Accepted => rows as u32,
-        Verdict::Denied(why) => 16777216 + refusal_number(why) as u32,
+        Ok(()) => rows as u32,
+        Err(why) => 16777216 + refusal_number(why) as u32,
     }
 }
 
 // Writes the answer to a call to its place, if there is one.
-fn put_answer(v: Verdict, rows: usize, answers: &mut [u32], i: usize)
+fn put_answer(v: Result<(), Refusal>, rows: usize, answers: &mut [u32], i: usize)
     requires { rows ≤ most_bars }
     ensures { answers.new ≡ overlay answers.old i (take (length answers.old - i) (answer_by v rows ∷ [])) }
 {

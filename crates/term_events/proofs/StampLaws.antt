@@ -1,4 +1,5 @@
 -- Stamps, one by one and of a list of events: what those that no refusal stops are, and what they leave carried. Assumes nothing.
+use Rattle.std.specs.Prelude.{Err, Ok}
 use Prim.Native.Nat.{ℕ, zero, suc, ◌+◌, ◌≤◌, ◌<◌}
 use mathlib.Core.Path.{◌≡◌, refl, ◌∙◌}
 use mathlib.Core.Bool.{true, false}
@@ -10,7 +11,6 @@ use lib.ListN.{length, get_or, drop, drop_of_length-le}
 use lib.Seq.{drop-cons}
 use Rattle.measures.specs.Bar.{Bar}
 use Rattle.answers.specs.declared.refusals.Refusal.TheVariants.{LateStamp, OutsideHours}
-use Rattle.answers.specs.declared.refusals.Verdict.TheVariants.{Accepted, Denied}
 use Rattle.recognisers.specs.Refusal.{first_true}
 use Rattle.answers.proofs.VerdictLaws.{none_true}
 use Rattle.trading_hours.specs.declared.hours.Hours.{Hours}
@@ -28,8 +28,8 @@ module _ (h : Hours) where
   unfolding first_true stamps_tried
   next-tried last s ss e f = simp (e, f)
 
-  pub first-passed : (last : LastStamp) (s : ℕ) (ss : List ℕ) → first_true (stamps_tried h last (s ∷ ss)) ≡ Accepted
-      → (above last s ≡ true) × (in_hours h s ≡ true) × (first_true (stamps_tried h (At s) ss) ≡ Accepted)
+  pub first-passed : (last : LastStamp) (s : ℕ) (ss : List ℕ) → first_true (stamps_tried h last (s ∷ ss)) ≡ Ok tt
+      → (above last s ≡ true) × (in_hours h s ≡ true) × (first_true (stamps_tried h (At s) ss) ≡ Ok tt)
   unfolding stamps_tried
   first-passed last s ss e =
       let ten = none_true _ _ e in
@@ -39,11 +39,11 @@ module _ (h : Hours) where
   -- ---- those from one on
 
   module _ (last : LastStamp) (ss : List ℕ) (i : ℕ) (within : i < length ss) where
-    pub stamps-late : above last (get_or ss i 0) ≡ false → first_true (stamps_tried h last (drop i ss)) ≡ Denied LateStamp
+    pub stamps-late : above last (get_or ss i 0) ≡ false → first_true (stamps_tried h last (drop i ss)) ≡ Err LateStamp
     unfolding first_true stamps_tried
     stamps-late e = rw (drop-cons ss i 0 within) (simp e)
 
-    pub stamps-outside : above last (get_or ss i 0) ≡ true → in_hours h (get_or ss i 0) ≡ false → first_true (stamps_tried h last (drop i ss)) ≡ Denied OutsideHours
+    pub stamps-outside : above last (get_or ss i 0) ≡ true → in_hours h (get_or ss i 0) ≡ false → first_true (stamps_tried h last (drop i ss)) ≡ Err OutsideHours
     unfolding first_true stamps_tried
     stamps-outside e f = rw (drop-cons ss i 0 within) (simp (e, f))
 
@@ -51,7 +51,7 @@ module _ (h : Hours) where
         → first_true (stamps_tried h last (drop i ss)) ≡ first_true (stamps_tried h (At (get_or ss i 0)) (drop (i + 1) ss))
     stamps-next e f = rw (add-one i, drop-cons ss i 0 within) (next-tried last (get_or ss i 0) (drop (suc i) ss) e f)
 
-  pub stamps-past : (last : LastStamp) (ss : List ℕ) (i : ℕ) → length ss ≤ i → first_true (stamps_tried h last (drop i ss)) ≡ Accepted
+  pub stamps-past : (last : LastStamp) (ss : List ℕ) (i : ℕ) → length ss ≤ i → first_true (stamps_tried h last (drop i ss)) ≡ Ok tt
   unfolding first_true stamps_tried
   stamps-past last ss i past = rw (drop_of_length-le ss past)
 
@@ -62,7 +62,7 @@ module _ (h : Hours) where
   above-later Never a b up next = refl
   above-later (At s) a b up next = lt-ltb s b (omega (arith, ltb-true s a up, ltb-true a b next))
 
-  pub stamps-at : (last : LastStamp) (ss : List ℕ) (i : ℕ) → i < length ss → first_true (stamps_tried h last ss) ≡ Accepted → (above last (get_or ss i 0) ≡ true) × (in_hours h (get_or ss i 0) ≡ true)
+  pub stamps-at : (last : LastStamp) (ss : List ℕ) (i : ℕ) → i < length ss → first_true (stamps_tried h last ss) ≡ Ok tt → (above last (get_or ss i 0) ≡ true) × (in_hours h (get_or ss i 0) ≡ true)
   stamps-at last [] i within e = absurd (let z : ⊥ = omega arith in z)
   stamps-at last (s ∷ ss) zero within e = let first = first-passed last s ss e in (first.0, first.1)
   stamps-at last (s ∷ ss) (suc i) within e =
@@ -70,7 +70,7 @@ module _ (h : Hours) where
       let next = stamps-at (At s) ss i (omega arith) first.2 in
       (above-later last s (get_or ss i 0) first.0 next.0, next.1)
 
-  pub stamps-rise : (last : LastStamp) (ss : List ℕ) (i j : ℕ) → i < j → j < length ss → first_true (stamps_tried h last ss) ≡ Accepted → get_or ss i 0 < get_or ss j 0
+  pub stamps-rise : (last : LastStamp) (ss : List ℕ) (i j : ℕ) → i < j → j < length ss → first_true (stamps_tried h last ss) ≡ Ok tt → get_or ss i 0 < get_or ss j 0
   unfolding above
   stamps-rise last [] i j less within e = absurd (let z : ⊥ = omega arith in z)
   stamps-rise last (s ∷ ss) i zero less within e = absurd (let z : ⊥ = omega arith in z)
@@ -79,8 +79,8 @@ module _ (h : Hours) where
 
   -- ---- the stamps of events
 
-  pub stamps-append : (last : LastStamp) (es new : List Event) → first_true (stamps_tried h last (stamps_in es)) ≡ Accepted
-      → first_true (stamps_tried h (stamp_after last es) (stamps_in new)) ≡ Accepted → first_true (stamps_tried h last (stamps_in (es ++ new))) ≡ Accepted
+  pub stamps-append : (last : LastStamp) (es new : List Event) → first_true (stamps_tried h last (stamps_in es)) ≡ Ok tt
+      → first_true (stamps_tried h (stamp_after last es) (stamps_in new)) ≡ Ok tt → first_true (stamps_tried h last (stamps_in (es ++ new))) ≡ Ok tt
   unfolding stamps_in stamp_after
   stamps-append last [] new p q = q
   stamps-append last (Minute s b ∷ es) new p q =
@@ -96,7 +96,7 @@ module _ (h : Hours) where
   sound-closed Never p k = refl
   sound-closed (At s) p k = k
 
-  pub events-sound : (m : ℕ) (c : Carried) (es : List Event) → first_true (stamps_tried h c.last (stamps_in es)) ≡ Accepted
+  pub events-sound : (m : ℕ) (c : Carried) (es : List Event) → first_true (stamps_tried h c.last (stamps_in es)) ≡ Ok tt
       → sound_carried h c.last c.pending ≡ true → let d = carried_of h m c es in sound_carried h d.last d.pending ≡ true
   unfolding carried_of stamps_in minute_step sound_carried
   events-sound m c [] e k = k

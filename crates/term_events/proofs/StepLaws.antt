@@ -1,5 +1,6 @@
 -- Stamps that a run isn't refused for, one after the other, with the end of the last one's term; and what passing its bars leaves. Assumes
 -- nothing.
+use Rattle.std.specs.Prelude.{Ok}
 use Prim.Native.Nat.{ℕ, zero, suc, ◌+◌, ◌*◌, ◌/◌, ◌≤◌, ◌<◌}
 use mathlib.Core.Path.{◌≡◌, refl, ap, sym, ◌∙◌}
 use mathlib.Core.Logic.{⊎_elim}
@@ -16,7 +17,6 @@ use borrow.Author.Tests.{ltb-true, le-ltb, eqb-true, eqb-false}
 use Rattle.measures.specs.Bar.{Bar, no_bar, overlay, prices_of}
 use Rattle.measures.proofs.Overlay.{overlay-none, overlay-more, length-overlay}
 use Rattle.measures.proofs.PriceLaws.{length-prices, prices-append, put-room}
-use Rattle.answers.specs.declared.refusals.Verdict.TheVariants.{Accepted}
 use Rattle.recognisers.specs.Refusal.{first_true}
 use Rattle.trading_hours.specs.declared.hours.Hours.{Hours}
 use Rattle.trading_hours.specs.Hours.{in_hours}
@@ -153,7 +153,7 @@ module _ (h : Hours) (m : ℕ) (bars : List Bar) where
     later = minutes_of ss (drop (k + 1) bars)
 
     -- the stamp is above the last one, lies in the hours, and no refusal stops those after it
-    first : (above c.last s ≡ true) × (in_hours h s ≡ true) × (first_true (stamps_tried h (At s) ss) ≡ Accepted)
+    first : (above c.last s ≡ true) × (in_hours h s ≡ true) × (first_true (stamps_tried h (At s) ss) ≡ Ok tt)
     first = first-passed h c.last s ss ready.rising
 
     known : EndKnown h m c.last end

@@ -1,4 +1,6 @@
 -- The calls' verdicts: what an accepted run or close meets. Assumes nothing.
+use Rattle.std.specs.Prelude.{Err, Ok}
+use Rattle.answers.specs.Refusal.{Verdict}
 use Prim.Native.Nat.{ℕ, ◌/◌}
 use mathlib.Core.Path.{◌≡◌, refl, ◌∙◌}
 use mathlib.Core.Bool.{Bool, true, false, cond, ◌&&◌}
@@ -8,7 +10,6 @@ use lib.Dec.{eqb}
 use lib.ListN.{length}
 use Rattle.recognisers.specs.Threshold.{Thresholds}
 use Rattle.answers.specs.declared.refusals.Refusal.TheVariants.{BadThreshold, BrokenBars}
-use Rattle.answers.specs.declared.refusals.Verdict.{Verdict, TheVariants.Accepted, TheVariants.Denied}
 use Rattle.recognisers.specs.Refusal.{Tried, broken_bars, bad_layer, first_true, next_after, feed_tried, feed_verdict, checked_tried}
 use Rattle.answers.proofs.VerdictLaws.{none_true, accepts}
 use Rattle.trading_hours.specs.declared.hours.Hours.{Hours}
@@ -20,8 +21,8 @@ use Rattle.term_events.specs.Verdicts.{stamps_tried, sound_carried, valid_layer,
 -- ---- the tests of a run: those that are checked as a feed's, and then those of the stamps
 
 abbrev pub then_tried : Verdict → Verdict → Verdict
-then_tried Accepted v = v
-then_tried (Denied r) v = Denied r
+then_tried (Ok tt) v = v
+then_tried (Err r) v = Err r
 
 first-append : (xs ys : List Tried) → first_true (xs ++ ys) ≡ then_tried (first_true xs) (first_true ys)
 unfolding first_true
@@ -29,7 +30,7 @@ first-append [] ys = refl
 first-append (x ∷ xs) ys = go x.met (first-append xs ys)
   where
     go : (m : Bool) → first_true (xs ++ ys) ≡ then_tried (first_true xs) (first_true ys)
-        → cond m (Denied x.why) (first_true (xs ++ ys)) ≡ then_tried (cond m (Denied x.why) (first_true xs)) (first_true ys)
+        → cond m (Err x.why) (first_true (xs ++ ys)) ≡ then_tried (cond m (Err x.why) (first_true xs)) (first_true ys)
     go true e = refl
     go false e = e
 
@@ -45,7 +46,7 @@ module _ (t : Thresholds) (valid : Bool) (n prices : ℕ) (stamps : List ℕ) (s
   unfolding run_tried
   run-checked h last = first-append as_feed (stamps_tried h last stamps) ∙ rw as-feed
 
-  pub checked-layer : v ≡ Accepted → valid ≡ true
+  pub checked-layer : v ≡ Ok tt → valid ≡ true
   unfolding checked_tried feed_tried next_after
   checked-layer a = not-false _ (none_true _ _ (none_true _ _ (e ∙ a)).1).0
 
@@ -67,11 +68,11 @@ layer-meets h m c e =
 pub record RunMeets (t : Thresholds) (h : Hours) (m : ℕ) (c : Carried) (n prices : ℕ) (stamps : List ℕ) (sheet : ℕ) : Type 0 where
   pub layer : LayerMeets h m c
   pub one_each : length stamps ≡ prices / 4
-  pub feed : feed_verdict t n prices sheet ≡ Accepted
-  pub rising : first_true (stamps_tried h c.last stamps) ≡ Accepted
+  pub feed : feed_verdict t n prices sheet ≡ Ok tt
+  pub rising : first_true (stamps_tried h c.last stamps) ≡ Ok tt
 
 pub run-meets : (t : Thresholds) (h : Hours) (m : ℕ) (c : Carried) (n prices : ℕ) (stamps : List ℕ) (sheet : ℕ)
-    → run_verdict t h m c n prices stamps sheet ≡ Accepted → RunMeets t h m c n prices stamps sheet
+    → run_verdict t h m c n prices stamps sheet ≡ Ok tt → RunMeets t h m c n prices stamps sheet
 unfolding run_tried feed_tried next_after
 run-meets t h m c n prices stamps sheet none =
     let three = none_true _ _ none in
@@ -89,9 +90,9 @@ run-meets t h m c n prices stamps sheet none =
 
 pub record CloseMeets (t : Thresholds) (h : Hours) (m : ℕ) (c : Carried) (n sheet : ℕ) : Type 0 where
   pub layer : LayerMeets h m c
-  pub feed : feed_verdict t n 4 sheet ≡ Accepted
+  pub feed : feed_verdict t n 4 sheet ≡ Ok tt
 
-pub close-meets : (t : Thresholds) (h : Hours) (m : ℕ) (c : Carried) (n sheet : ℕ) → close_verdict t h m c n sheet ≡ Accepted → CloseMeets t h m c n sheet
+pub close-meets : (t : Thresholds) (h : Hours) (m : ℕ) (c : Carried) (n sheet : ℕ) → close_verdict t h m c n sheet ≡ Ok tt → CloseMeets t h m c n sheet
 unfolding close_tried feed_tried next_after
 close-meets t h m c n sheet none =
     let three = none_true _ _ none in

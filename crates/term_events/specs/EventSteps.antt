@@ -1,6 +1,6 @@
 -- What the loops over the bars of a run go through: no part of what the layer promises.
+use Rattle.std.specs.Prelude.{Ok}
 use Rattle.std.specs.Prelude.{ℕ, ◌+◌, ◌/◌, ◌≤◌, ◌≡◌, Bool, true, false, cond, ◌&&◌, List, [], ◌∷◌, ltb, eqb, length, get_or, Float}
-use Rattle.answers.specs.declared.refusals.Verdict.TheVariants.{Accepted}
 use Rattle.recognisers.specs.Refusal.{first_true}
 use Rattle.measures.specs.Bar.{Bar, no_bar, put_bar}
 use Rattle.trading_hours.specs.declared.hours.Hours.{Hours}
@@ -61,4 +61,4 @@ pub record Ready (h : Hours) (m : ℕ) (c : Carried) (stamps : List ℕ) : Type 
   pub some : 1 ≤ m
   pub valid : valid_hours h ≡ true
   pub sound : sound_carried h c.last c.pending ≡ true
-  pub rising : first_true (stamps_tried h c.last stamps) ≡ Accepted
+  pub rising : first_true (stamps_tried h c.last stamps) ≡ Ok tt

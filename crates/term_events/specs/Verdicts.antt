@@ -1,8 +1,8 @@
 -- 02, P6: why a making, a run or a close is refused.
+use Rattle.answers.specs.Refusal.{Verdict}
 use Rattle.std.specs.Prelude.{ℕ, ◌/◌, Bool, true, false, ◌&&◌, List, [], ◌∷◌, ◌++◌, ltb, eqb, length}
 use Rattle.recognisers.specs.Threshold.{Thresholds}
 use Rattle.answers.specs.declared.refusals.Refusal.TheVariants.{BadThreshold, BrokenBars}
-use Rattle.answers.specs.declared.refusals.Verdict.{Verdict}
 use Rattle.recognisers.specs.Refusal.{Tried, bad_threshold, broken_bars, late_stamp, outside_hours, bad_layer, first_true, next_after, feed_tried}
 use Rattle.trading_hours.specs.declared.hours.Hours.{Hours}
 use Rattle.trading_hours.specs.Hours.{valid_hours, in_hours, term_length}

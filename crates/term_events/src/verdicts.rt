@@ -33,12 +33,12 @@ fn layer_valid(h: Hours, m: u32, c: Carried) -> bool
 }
 
 // The first of the refusals 3 and 12 that is true of a making.
-pub fn make_verdict(t: Thresholds, h: Hours, m: u32) -> Verdict
+pub fn make_verdict(t: Thresholds, h: Hours, m: u32) -> Result<(), Refusal>
     ensures { result ≡ make_verdict t h m }
 {
     let valid = t.is_valid();
     if !valid {
-        return Verdict::Denied(Refusal::BadThreshold);
+        return Err(Refusal::BadThreshold);
     }
     let none = Carried {
         last: LastStamp::Never,
@@ -46,9 +46,9 @@ pub fn make_verdict(t: Thresholds, h: Hours, m: u32) -> Verdict
     };
     let whole = layer_valid(h, m, none);
     if !whole {
-        return Verdict::Denied(Refusal::BadLayer);
+        return Err(Refusal::BadLayer);
     }
-    Verdict::Accepted
+    Ok(())
 }
 
 // Whether a stamp is above the last one.
@@ -62,7 +62,7 @@ fn is_above(last: LastStamp, stamp: u32) -> bool
 }
 
 // The first of the refusals 10 and 11 that is true of stamps, bar by bar.
-fn stamps_verdict(h: Hours, m: u32, before: LastStamp, stamps: &[u32]) -> Verdict
+fn stamps_verdict(h: Hours, m: u32, before: LastStamp, stamps: &[u32]) -> Result<(), Refusal>
     requires { EndKnown h m before (end_after h m before) }
     ensures { result ≡ first_true (stamps_tried h before stamps.now) }
 {
@@ -72,16 +72,16 @@ fn stamps_verdict(h: Hours, m: u32, before: LastStamp, stamps: &[u32]) -> Verdic
     while i < stamps.len() {
         let stamp = stamps[i];
         if !is_above(last, stamp) {
-            return Verdict::Denied(Refusal::LateStamp);
+            return Err(Refusal::LateStamp);
         }
         if !events::is_inside(h, end, stamp) {
-            return Verdict::Denied(Refusal::OutsideHours);
+            return Err(Refusal::OutsideHours);
         }
         end = events::next_end(h, m, end, stamp);
         last = LastStamp::At(stamp);
         i += 1;
     }
-    Verdict::Accepted
+    Ok(())
 }
 
 // The first of the refusals 3, 12, 4, 5, 6, 10 and 11 that is true of a run to a layer whose box counts n bars.
@@ -94,14 +94,14 @@ pub fn run_verdict(
     prices: usize,
     stamps: &[u32],
     sheet: usize,
-) -> Verdict
+) -> Result<(), Refusal>
     ensures { result ≡ run_verdict t h m c n prices stamps.now sheet }
 {
     let layer = layer_valid(h, m, c);
     let one_each = stamps.len() == prices / 4;
     match checked(t, layer, n, prices, one_each, true, sheet) {
-        Verdict::Denied(why) => Verdict::Denied(why),
-        Verdict::Accepted => {
+        Err(why) => Err(why),
+        Ok(()) => {
             let last = c.last;
             stamps_verdict(h, m, last, stamps)
         }
@@ -109,7 +109,7 @@ pub fn run_verdict(
 }
 
 // The first of the refusals 3, 12, 5 and 6 that is true of a close.
-pub fn close_verdict(t: Thresholds, h: Hours, m: u32, c: Carried, n: u32, sheet: usize) -> Verdict
+pub fn close_verdict(t: Thresholds, h: Hours, m: u32, c: Carried, n: u32, sheet: usize) -> Result<(), Refusal>
     ensures { result ≡ close_verdict t h m c n sheet }
 {
     let layer = layer_valid(h, m, c);

@@ -1,5 +1,7 @@
 -- One call to the layer that events left, against the same call to the plain list of events: its verdict, the layer after it and the rows that
 -- it gives. Assumes nothing.
+use Rattle.std.specs.Prelude.{Err, Ok}
+use Rattle.answers.specs.Refusal.{Verdict}
 use Prim.Native.Nat.{ℕ, ◌+◌, ◌*◌, ◌≤◌, ◌<◌}
 use mathlib.Core.Path.{◌≡◌, refl, ap, sym, ◌∙◌}
 use mathlib.Core.List.{List, [], ◌∷◌, ◌++◌}
@@ -9,7 +11,6 @@ use lib.Seq.{take_at}
 use Rattle.measures.specs.Bar.{Bar, prices_of, bars_of}
 use Rattle.measures.proofs.RunLaws.{length-bars}
 use Rattle.recognisers.specs.Threshold.{Thresholds}
-use Rattle.answers.specs.declared.refusals.Verdict.{Verdict, TheVariants.Accepted, TheVariants.Denied}
 use Rattle.recognisers.specs.Number.{places, row_bytes, most_bars}
 use Rattle.bar_box.specs.Sheet.{rows_of}
 use Rattle.bar_box.specs.Box.{taken_in, fed_of}
@@ -55,8 +56,8 @@ sheet-after-is l (Run prices stamps sheet) = refl
 sheet-after-is l (Shut sheet) = refl
 
 -- the box's own feed of the term bars that end is not refused where the call isn't
-pub call-feed : (t : Thresholds) (h : Hours) (m : ℕ) (c : Carried) (n : ℕ) (x : Call) → verdict_by t (valid_layer h m c) h c.last n x ≡ Accepted
-    → feed_verdict t n (length (prices_of (ended_of h m c (events_in x)))) (length (lent_sheet x)) ≡ Accepted
+pub call-feed : (t : Thresholds) (h : Hours) (m : ℕ) (c : Carried) (n : ℕ) (x : Call) → verdict_by t (valid_layer h m c) h c.last n x ≡ Ok tt
+    → feed_verdict t n (length (prices_of (ended_of h m c (events_in x)))) (length (lent_sheet x)) ≡ Ok tt
 call-feed t h m c n (Run prices stamps sheet) e =
     let met = run-meets t h m c n (length prices) stamps (length sheet) e in
     let each : length stamps ≡ length (bars_of prices) = met.one_each ∙ sym (length-bars prices) in
@@ -70,7 +71,7 @@ call-feed t h m c n (Shut sheet) e =
     let few = ended-few h m c (Close ∷ []) in
     bars-accepted t n 4 (length sheet) met.feed (ended_of h m c (Close ∷ [])) (omega arith)
 
-pub box-accepts : (l : Layer) (x : Call) → (called l x).verdict ≡ Accepted → (fed l.inner (one_feed (ended_in l (events_in x)) (lent_sheet x))).verdict ≡ Accepted
+pub box-accepts : (l : Layer) (x : Call) → (called l x).verdict ≡ Ok tt → (fed l.inner (one_feed (ended_in l (events_in x)) (lent_sheet x))).verdict ≡ Ok tt
 unfolding fed_of
 box-accepts l x e = call-feed _ _ _ _ _ x (sym (ap (λ (o : Taken). o.verdict) (called_is l x)) ∙ e)
 
@@ -79,15 +80,15 @@ pub rows_fit : (l : Layer) (x : Call) → ((called l x).rows ≤ most_bars) × (
 rows_fit l x = rw (called_is l x) (go (verdict_at l x) refl)
   where
     go : (v : Verdict) → verdict_at l x ≡ v → (leaves v 0 (length (ended_in l (events_in x))) ≤ most_bars) × (row_bytes * leaves v 0 (length (ended_in l (events_in x))) ≤ length (lent_sheet x))
-    go Accepted e =
+    go (Ok tt) e =
         let f = fits _ _ _ _ (call-feed _ _ _ _ _ x e) in
         let four = length-prices (ended_in l (events_in x)) in
         (omega (arith, f.few), omega (arith, f.room))
-    go (Denied r) e = (omega arith, omega arith)
+    go (Err r) e = (omega arith, omega arith)
 
 -- of an accepted call the layer keeps the rules, and no refusal stops the stamps
-call-stamps : (t : Thresholds) (h : Hours) (m : ℕ) (c : Carried) (n : ℕ) (x : Call) → verdict_by t (valid_layer h m c) h c.last n x ≡ Accepted
-    → LayerMeets h m c × (first_true (stamps_tried h c.last (stamps_in (events_in x))) ≡ Accepted)
+call-stamps : (t : Thresholds) (h : Hours) (m : ℕ) (c : Carried) (n : ℕ) (x : Call) → verdict_by t (valid_layer h m c) h c.last n x ≡ Ok tt
+    → LayerMeets h m c × (first_true (stamps_tried h c.last (stamps_in (events_in x))) ≡ Ok tt)
 unfolding stamps_in stamps_tried first_true
 call-stamps t h m c n (Run prices stamps sheet) e =
     let met = run-meets t h m c n (length prices) stamps (length sheet) e in
@@ -111,7 +112,7 @@ module _ (l : Layer) (start : NoBars l.inner) where
 
   -- no refusal stops the stamps of the events; if there is one, the hours and the term length keep the rules
   unfoldable pub Kept : List Event → Type 0
-  Kept es = (first_true (stamps_tried l.hours Never (stamps_in es)) ≡ Accepted) × (1 ≤ length (stamps_in es) → TermRule l.hours l.minutes)
+  Kept es = (first_true (stamps_tried l.hours Never (stamps_in es)) ≡ Ok tt) × (1 ≤ length (stamps_in es) → TermRule l.hours l.minutes)
 
   -- so 12 can't be true of the layer for its stamp or an open term bar, and its verdict on a call is that of the events
   verdict-at : (es : List Event) (x : Call) → Kept es → verdict_at (layer_of es) x ≡ on es x
@@ -131,12 +132,12 @@ module _ (l : Layer) (start : NoBars l.inner) where
 
   kept_by : (v : Verdict) (es : List Event) (x : Call) → verdict_at (layer_of es) x ≡ v → Kept es → Kept (leaves v es (es ++ events_in x))
   unfolding Kept
-  kept_by Accepted es x e k =
+  kept_by (Ok tt) es x e k =
       let met = call-stamps _ _ _ (carried es) _ x e in (
         stamps-append l.hours Never es (events_in x) k.0 (rw (← carried-last l.hours l.minutes nothing_yet es) met.1),
         λ some. term-rule l.hours l.minutes (term-some _ met.0.minutes) met.0.hours,
       )
-  kept_by (Denied r) es x e k = k
+  kept_by (Err r) es x e k = k
 
   pub kept_step : (es : List Event) (x : Call) → Kept es → Kept (appended l.inner.thresholds l.hours l.minutes es x)
   kept_step es x k = rw (verdict-at es x k) at (kept_by (verdict_at (layer_of es) x) es x refl k)
@@ -155,7 +156,7 @@ module _ (l : Layer) (start : NoBars l.inner) where
       }
 
   -- an accepted call leaves the layer that the events and its own leave
-  accepted-layer : (es : List Event) (x : Call) → verdict_at (layer_of es) x ≡ Accepted → after_events (layer_of es) (events_in x) (length (lent_sheet x)) ≡ layer_of (es ++ events_in x)
+  accepted-layer : (es : List Event) (x : Call) → verdict_at (layer_of es) x ≡ Ok tt → after_events (layer_of es) (events_in x) (length (lent_sheet x)) ≡ layer_of (es ++ events_in x)
   accepted-layer es x e =
       let new = events_in x in
       let feed = call-feed _ _ _ _ _ x e in
@@ -168,8 +169,8 @@ module _ (l : Layer) (start : NoBars l.inner) where
 
   layer-by : (v : Verdict) (es : List Event) (x : Call) → verdict_at (layer_of es) x ≡ v
       → leaves v (layer_of es) (after_events (layer_of es) (events_in x) (length (lent_sheet x))) ≡ layer_of (leaves v es (es ++ events_in x))
-  layer-by Accepted es x e = accepted-layer es x e
-  layer-by (Denied r) es x e = refl
+  layer-by (Ok tt) es x e = accepted-layer es x e
+  layer-by (Err r) es x e = refl
 
   pub layer-step : (es : List Event) (x : Call) → Kept es → (called (layer_of es) x).after ≡ layer_of (appended l.inner.thresholds l.hours l.minutes es x)
   layer-step es x k =
@@ -182,7 +183,7 @@ module _ (l : Layer) (start : NoBars l.inner) where
       → let new = ended_in (layer_of es) (events_in x) in
       take (row_bytes * leaves v 0 (length new)) (taken_sheet v (layer_of es) (events_in x) (lent_sheet x))
       ≡ leaves v [] (rows_of l.inner.thresholds (length (ended es)) (ended es) new)
-  rows-by Accepted es x e =
+  rows-by (Ok tt) es x e =
       let t = l.inner.thresholds in
       let old = ended es in
       let new = ended_in (layer_of es) (events_in x) in
@@ -194,7 +195,7 @@ module _ (l : Layer) (start : NoBars l.inner) where
         rows-newest places (omega arith) t (length old) old new,
       )
       (take_at (rows_of t (length old) old new) (drop (0 + length (rows_of t (length old) old new)) (lent_sheet x)) (row_bytes * length new) (length-rows t (length old) old new))
-  rows-by (Denied r) es x e = refl
+  rows-by (Err r) es x e = refl
 
   pub rows_step : (es : List Event) (x : Call) → Kept es
       → rows_of_call (layer_of es) x ≡ leaves (on es x) [] (rows_of l.inner.thresholds (length (ended es)) (ended es) (ended_of l.hours l.minutes (carried es) (events_in x)))
@@ -205,6 +206,6 @@ module _ (l : Layer) (start : NoBars l.inner) where
       ∙ ap (λ (v : Verdict). leaves v [] (rows_of l.inner.thresholds (length (ended es)) (ended es) new)) (verdict-at es x k))
 
   -- where the events say that a call is accepted, a feed of its term bars is
-  pub events-feed : (es : List Event) (x : Call) → Kept es → on es x ≡ Accepted
-      → feed_verdict l.inner.thresholds (length (ended es)) (length (prices_of (ended_of l.hours l.minutes (carried es) (events_in x)))) (length (lent_sheet x)) ≡ Accepted
+  pub events-feed : (es : List Event) (x : Call) → Kept es → on es x ≡ Ok tt
+      → feed_verdict l.inner.thresholds (length (ended es)) (length (prices_of (ended_of l.hours l.minutes (carried es) (events_in x)))) (length (lent_sheet x)) ≡ Ok tt
   events-feed es x k e = rw (count-after l.inner start (ended es)) at (call-feed _ _ _ (carried es) _ x (verdict-at es x k ∙ e))

@@ -1,4 +1,5 @@
 -- The parts of a run whose feed is accepted, one after the other: each ends term bars, which are fed behind those before them. Assumes nothing.
+use Rattle.std.specs.Prelude.{Ok}
 use Prim.Native.Nat.{ℕ, ◌+◌, ◌-◌, ◌*◌, ◌/◌, ◌≤◌, ◌<◌}
 use mathlib.Core.Path.{◌≡◌, ap, sym, ◌∙◌}
 use mathlib.Core.List.{List, [], ◌++◌}
@@ -12,7 +13,6 @@ use Rattle.measures.proofs.PriceLaws.{length-prices, bars-prices}
 use Rattle.measures.proofs.Overlay.{length-overlay}
 use Rattle.recognisers.specs.Number.{row_bytes, most_bars}
 use Rattle.recognisers.specs.Threshold.{Thresholds}
-use Rattle.answers.specs.declared.refusals.Verdict.TheVariants.{Accepted}
 use Rattle.recognisers.specs.Refusal.{feed_verdict}
 use Rattle.bar_box.proofs.FeedSteps.{fits}
 use Rattle.trading_hours.specs.declared.hours.Hours.{Hours}
@@ -40,7 +40,7 @@ module _ (h : Hours) (m : ℕ) (c : Carried) (ps : List Float) (ss : List ℕ) (
     pub within : f.at ≤ length ss
     pub enough : 4 * f.count ≤ length run
     pub few : length (ended_to done) + f.count ≤ most_bars
-    pub accepted : feed_verdict t (n + length (ended_to done)) (4 * f.count) (row_bytes * f.count) ≡ Accepted
+    pub accepted : feed_verdict t (n + length (ended_to done)) (4 * f.count) (row_bytes * f.count) ≡ Ok tt
     pub room : row_bytes * (length (ended_to done) + f.count) ≤ sheet
     pub count : length (bars_of (take (4 * f.count) run)) ≡ f.count
     pub ended : ended_to f.at ≡ ended_to done ++ bars_of (take (4 * f.count) run)
@@ -58,7 +58,7 @@ module _ (h : Hours) (m : ℕ) (c : Carried) (ps : List Float) (ss : List ℕ) (
       let later : minutes_of (drop done ss) (drop done bars) ≡ drop k events_from = sym (drop-drop k from (minutes_of ss bars) ∙ rw sum_is (minutes-drop done ss bars)) in
       rw later at (passed-by h m bars (carried_to done) done 0 run (drop done ss) here (rw length-drop (omega arith)) (omega arith))
 
-  part_of : length ss ≡ length (bars_of ps) → (t : Thresholds) (n sheet : ℕ) → feed_verdict t n (length ps) sheet ≡ Accepted → (done : ℕ) → from ≤ done → done < length ss → (run : List Float) → 4 ≤ length run
+  part_of : length ss ≡ length (bars_of ps) → (t : Thresholds) (n sheet : ℕ) → feed_verdict t n (length ps) sheet ≡ Ok tt → (done : ℕ) → from ≤ done → done < length ss → (run : List Float) → 4 ≤ length run
       → (r : Passed × List Float) → PassedBy h m (carried_to done) (drop (done - from) events_from) done 0 run r → PartFits t n sheet done r.0 r.1
   part_of each t n sheet e done past less run some r by =
       let es = events_from in
@@ -89,7 +89,7 @@ module _ (h : Hours) (m : ℕ) (c : Carried) (ps : List Float) (ss : List ℕ) (
       }
 
   -- as the code has it
-  pub part-fits : Ready h m c (drop from ss) → length ss ≡ length (bars_of ps) → (t : Thresholds) (n sheet : ℕ) → feed_verdict t n (length ps) sheet ≡ Accepted
+  pub part-fits : Ready h m c (drop from ss) → length ss ≡ length (bars_of ps) → (t : Thresholds) (n sheet : ℕ) → feed_verdict t n (length ps) sheet ≡ Ok tt
       → (done : ℕ) → from ≤ done → done < length ss → (run : List Float) → 4 ≤ length run → (carried : Carried) → carried ≡ carried_to done → (f : Passed) (left : List Float)
       → let r = pass_of h m (bars_of ps) carried (end_after h m carried.last) done 0 run (drop done ss) in (f ≡ r.0) × (left ≡ r.1) → PartFits t n sheet done f left
   part-fits ready each t n sheet e done past less run some carried is f left made = rw (made.0, made.1, is) (part_of each t n sheet e done past less run some _ (passed-part ready each done past less run))

@@ -1,5 +1,7 @@
 -- What the calls take in, as the code goes by the verdict: nothing of a refused one; of an accepted run first the bars that end no term bar, and
 -- then the others; of an accepted close the open bar. And what making leaves. Assumes nothing.
+use Rattle.std.specs.Prelude.{Err, Ok}
+use Rattle.answers.specs.Refusal.{Verdict}
 use Prim.Native.Nat.{ℕ, ◌≤◌}
 use mathlib.Core.Path.{◌≡◌, refl, ap, sym, ◌∙◌}
 use mathlib.Core.List.{List, [], ◌∷◌}
@@ -13,7 +15,6 @@ use Rattle.measures.proofs.RunLaws.{length-bars}
 use Rattle.measures.proofs.Overlay.{overlay-none}
 use Rattle.recognisers.specs.Number.{places}
 use Rattle.recognisers.specs.Threshold.{Thresholds, standard_set}
-use Rattle.answers.specs.declared.refusals.Verdict.{Verdict, TheVariants.Accepted, TheVariants.Denied}
 use Rattle.recognisers.specs.Refusal.{leaves, feed_verdict}
 use Rattle.bar_box.specs.Sheet.{rows_of}
 use Rattle.bar_box.specs.Box.{taken_in, fed_of, sheet_of, made_of as boxMade}
@@ -58,7 +59,7 @@ module _ (l : Layer) (ps : List Float) (ss sheet : List ℕ) where
 
   -- ---- an accepted run
 
-  module _ (e : verdict ≡ Accepted) where
+  module _ (e : verdict ≡ Ok tt) where
     one_each : length ss ≡ length (bars_of ps)
     one_each = (run-meets _ _ _ _ _ _ _ _ e).one_each ∙ sym (length-bars ps)
 
@@ -68,11 +69,11 @@ module _ (l : Layer) (ps : List Float) (ss sheet : List ℕ) where
         record { some = term-some _ met.layer.minutes; valid = met.layer.hours; sound = met.layer.carried; rising = met.rising }
 
     -- the box's own feed is not refused
-    run-feed : feed_verdict l.inner.thresholds l.inner.count (length (prices_of (ended_in l events))) (length sheet) ≡ Accepted
+    run-feed : feed_verdict l.inner.thresholds l.inner.count (length (prices_of (ended_in l events))) (length sheet) ≡ Ok tt
     run-feed = call-feed _ _ _ _ _ (Run ps ss sheet) e
 
     -- what it leaves
-    ran-is : taken Accepted (length (ended_in l events)) (layer_with h m (carried_of h m l.carried events) (taken_in l.inner (ended_in l events))) ≡ ran_of l ps ss (length sheet)
+    ran-is : taken (Ok tt) (length (ended_in l events)) (layer_with h m (carried_of h m l.carried events) (taken_in l.inner (ended_in l events))) ≡ ran_of l ps ss (length sheet)
     unfolding ran_of
     ran-is = taken_is l events sheet run-feed ∙ ap (λ (v : Verdict). taken_of v l events (length sheet)) (sym e)
 
@@ -84,11 +85,11 @@ module _ (l : Layer) (ps : List Float) (ss sheet : List ℕ) where
 
   -- where a bar is left the run is accepted; what is left of it leaves what the whole does
   pub record Later (v : Verdict) (f : Passed) : Type 0 where
-    pub accepted : v ≡ Accepted
+    pub accepted : v ≡ Ok tt
     pub ready : Ready h m f.carried (drop f.at ss)
     pub each : length ss ≡ length (bars_of ps)
     pub within : f.at ≤ length ss
-    pub feed : feed_verdict l.inner.thresholds l.inner.count (length ps) (length sheet) ≡ Accepted
+    pub feed : feed_verdict l.inner.thresholds l.inner.count (length ps) (length sheet) ≡ Ok tt
     pub ran : let p = progress_of h m f.carried l.inner (drop f.at events) in taken v p.rows (layer_with h m p.carried p.inner) ≡ ran_of l ps ss (length sheet)
     pub written : overlay sheet 0 (rows_from l.inner (ended_of h m f.carried (drop f.at events))) ≡ ran_sheet l ps ss sheet
 
@@ -102,7 +103,7 @@ module _ (l : Layer) (ps : List Float) (ss sheet : List ℕ) where
   module _ (all : length l.inner.bars ≡ places) where
     front_of : (v : Verdict) → verdict ≡ v → Front v (passed_from (leaves v (length ss) 0))
     unfolding ran_of ran_sheet rows_of
-    front_of Accepted e =
+    front_of (Ok tt) e =
         let c = l.carried in
         let each = one_each e in
         let total = length-minutes ss (bars_of ps) each in
@@ -117,7 +118,7 @@ module _ (l : Layer) (ps : List Float) (ss sheet : List ℕ) where
           quiet = λ past.
               let whole : take f.at events ≡ events = take_all f.at events (omega arith) in
               let quiet : ended_in l events ≡ [] = rw whole at none in
-              let same : taken Accepted 0 (layer_with h m f.carried l.inner) ≡ taken Accepted (length (ended_in l events)) (layer_with h m (carried_of h m c events) (taken_in l.inner (ended_in l events))) =
+              let same : taken (Ok tt) 0 (layer_with h m f.carried l.inner) ≡ taken (Ok tt) (length (ended_in l events)) (layer_with h m (carried_of h m c events) (taken_in l.inner (ended_in l events))) =
               rw (quiet, taken_none l.inner all, carried, whole) in
               let none_written : overlay sheet 0 (rows_from l.inner (ended_in l events)) ≡ sheet = rw quiet (overlay-none sheet 0) in
               (same ∙ ran-is e, sym none_written ∙ ran-sheet-is e);
@@ -131,10 +132,10 @@ module _ (l : Layer) (ps : List Float) (ss sheet : List ℕ) where
             written = rw ended-later (ran-sheet-is e);
           };
         }
-    front_of (Denied r) e =
+    front_of (Err r) e =
         let none = ap (λ (x : Passed × List Float). x.0) (pass-past h m (bars_of ps) l.carried (end_after h m l.carried.last) (length ss) 0 [] ss (omega arith)) in
         record {
-          quiet = λ past. (ap (λ (f : Passed). taken (Denied r) 0 (layer_with h m f.carried l.inner)) none ∙ rw e, rw e);
+          quiet = λ past. (ap (λ (f : Passed). taken (Err r) 0 (layer_with h m f.carried l.inner)) none ∙ rw e, rw e);
           later = λ other. absurd (other (ap (λ (f : Passed). f.at) none));
         }
 
@@ -147,8 +148,8 @@ module _ (l : Layer) (ps : List Float) (ss sheet : List ℕ) where
 pub made-is : (t : Thresholds) (h : Hours) (m : ℕ) (v : Verdict) → make_verdict t h m ≡ v
     → taken v 0 (layer_with (leaves v whole_day (with_zeros h)) (leaves v 5 m) nothing_yet (boxMade (leaves v standard_set t)).after) ≡ made_of t h m
 unfolding made_of make_verdict
-made-is t h m Accepted e = rw (made-valid t (not-false _ (none_true _ _ e).0)) (ap (λ (v : Verdict). taken v 0 (made_by v t h m)) (sym e))
-made-is t h m (Denied r) e = rw (made-valid standard_set standard-valid) (ap (λ (v : Verdict). taken v 0 (made_by v t h m)) (sym e))
+made-is t h m (Ok tt) e = rw (made-valid t (not-false _ (none_true _ _ e).0)) (ap (λ (v : Verdict). taken v 0 (made_by v t h m)) (sym e))
+made-is t h m (Err r) e = rw (made-valid standard_set standard-valid) (ap (λ (v : Verdict). taken v 0 (made_by v t h m)) (sym e))
 
 -- ---- a close, as the code goes by the verdict: a refused one ends nothing
 
@@ -162,22 +163,22 @@ module _ (l : Layer) (sheet : List ℕ) where
   pub closed_none : length l.inner.bars ≡ places → (v : Verdict) → close_verdict_of l (length sheet) ≡ v → leaves v Nothing l.carried.pending ≡ Nothing
       → (taken v 0 l ≡ closed_of l (length sheet)) × (sheet ≡ closed_sheet l sheet)
   unfolding closed_of closed_sheet carried_of rows_of
-  closed_none all Accepted e none =
+  closed_none all (Ok tt) e none =
       let ended : ended_in l shut ≡ [] = shut-ended ∙ ap open_bars none in
       let feed = call-feed _ _ _ _ _ (Shut sheet) e in
       let box : (fed_of l.inner (prices_of (ended_in l shut)) (length sheet)).after ≡ l.inner = box-is l shut sheet feed ∙ rw (ended, taken_none l.inner all) in
-      let left : taken_of Accepted l shut (length sheet) ≡ taken Accepted 0 (layer_with l.hours l.minutes (carried_with l.carried.last Nothing) l.inner) = rw (box, ended) in
-      let written : taken_sheet Accepted l shut sheet ≡ sheet = sheet-is l shut sheet feed ∙ rw ended (overlay-none sheet 0) in (
-        ap (λ (p : OpenBar). taken Accepted 0 (layer_with l.hours l.minutes (carried_with l.carried.last p) l.inner)) none ∙ sym (ap (λ (v : Verdict). taken_of v l shut (length sheet)) e ∙ left),
+      let left : taken_of (Ok tt) l shut (length sheet) ≡ taken (Ok tt) 0 (layer_with l.hours l.minutes (carried_with l.carried.last Nothing) l.inner) = rw (box, ended) in
+      let written : taken_sheet (Ok tt) l shut sheet ≡ sheet = sheet-is l shut sheet feed ∙ rw ended (overlay-none sheet 0) in (
+        ap (λ (p : OpenBar). taken (Ok tt) 0 (layer_with l.hours l.minutes (carried_with l.carried.last p) l.inner)) none ∙ sym (ap (λ (v : Verdict). taken_of v l shut (length sheet)) e ∙ left),
         sym (ap (λ (v : Verdict). taken_sheet v l shut sheet) e ∙ written),
       )
-  closed_none all (Denied r) e none = (rw e, rw e)
+  closed_none all (Err r) e none = (rw e, rw e)
 
   pub closed-one : (bar : Bar) (v : Verdict) → close_verdict_of l (length sheet) ≡ v → leaves v Nothing l.carried.pending ≡ Begun bar
       → (taken v 1 (layer_with l.hours l.minutes (carried_with l.carried.last Nothing) (fed_of l.inner (prices_of (bar ∷ [])) (length sheet)).after) ≡ closed_of l (length sheet))
       × (sheet_of l.inner (prices_of (bar ∷ [])) sheet ≡ closed_sheet l sheet)
   unfolding closed_of closed_sheet carried_of
-  closed-one bar Accepted e one =
+  closed-one bar (Ok tt) e one =
       let ended : ended_in l shut ≡ bar ∷ [] = shut-ended ∙ ap open_bars one in
       (sym (ap (λ (v : Verdict). taken_of v l shut (length sheet)) e ∙ rw ended), sym (ap (λ (v : Verdict). taken_sheet v l shut sheet) e ∙ rw ended))
-  closed-one bar (Denied r) e one = absurd (let z : ◌≡◌ {A = ℕ} 0 1 = cc in omega arith)
+  closed-one bar (Err r) e one = absurd (let z : ◌≡◌ {A = ℕ} 0 1 = cc in omega arith)

@@ -1,4 +1,6 @@
 -- What every list of calls leaves, over every layer to which nothing came and over the layer that making gives. Assumes nothing.
+use Rattle.std.specs.Prelude.{Err, Ok}
+use Rattle.answers.specs.Refusal.{Verdict}
 use Prim.Native.Nat.{ℕ, ◌*◌, ◌≤◌}
 use mathlib.Core.Path.{◌≡◌, refl, ap, sym, ◌∙◌}
 use mathlib.Core.Bool.{true}
@@ -8,7 +10,6 @@ use native.Mathlib.Nat.{zero-add}
 use lib.ListN.{length, length-append}
 use Rattle.measures.specs.Bar.{Bar, prices_of, bars_of}
 use Rattle.recognisers.specs.Threshold.{Thresholds, standard_set, valid_of}
-use Rattle.answers.specs.declared.refusals.Verdict.{Verdict, TheVariants.Accepted, TheVariants.Denied}
 use Rattle.recognisers.specs.Number.{row_bytes}
 use Rattle.bar_box.specs.Sheet.{rows_of}
 use borrow.Author.Tests.{not-false}
@@ -38,11 +39,11 @@ use Rattle.terms.proofs.CallSteps.{box-accepts, Kept, kept-none, kept_step, kept
 -- ---- one feed of bars to no history
 
 none_left : (v : Verdict) → leaves {A = List Bar} v [] [] ≡ []
-none_left Accepted = refl
-none_left (Denied r) = refl
+none_left (Ok tt) = refl
+none_left (Err r) = refl
 
 -- it leaves the bars, if it is accepted where there is one
-whole : (t : Thresholds) (sheet : List ℕ) (bars : List Bar) → (1 ≤ length bars → boxVerdictOn t [] (one_feed bars sheet) ≡ Accepted) → boxAppended t [] (one_feed bars sheet) ≡ bars
+whole : (t : Thresholds) (sheet : List ℕ) (bars : List Bar) → (1 ≤ length bars → boxVerdictOn t [] (one_feed bars sheet) ≡ Ok tt) → boxAppended t [] (one_feed bars sheet) ≡ bars
 unfolding prices_of bars_of
 whole t sheet [] p = none_left (boxVerdictOn t [] (one_feed [] sheet))
 whole t sheet (b ∷ bars) p = rw (p (omega arith)) (bars-prices (b ∷ bars))
@@ -97,26 +98,26 @@ module _ (l : Layer) (start : NoneYet l) where
   rows_on es x = leaves (on es x) [] (rows_of t (length (ended es)) (ended es) (ended_of l.hours l.minutes (carried es) (events_in x)))
 
   ended_by : (v : Verdict) (es new : List Event) → ended es ++ leaves v [] (ended_of l.hours l.minutes (carried es) new) ≡ ended (leaves v es (es ++ new))
-  ended_by Accepted es new = sym (ended-append l.hours l.minutes nothing_yet es new)
-  ended_by (Denied r) es new = append-nil (ended es)
+  ended_by (Ok tt) es new = sym (ended-append l.hours l.minutes nothing_yet es new)
+  ended_by (Err r) es new = append-nil (ended es)
 
   rows-by : (v : Verdict) (es new : List Event)
       → rows_of t 0 [] (ended es) ++ leaves v [] (rows_of t (length (ended es)) (ended es) (ended_of l.hours l.minutes (carried es) new)) ≡ rows_of t 0 [] (ended (leaves v es (es ++ new)))
-  rows-by Accepted es new =
+  rows-by (Ok tt) es new =
       rw (ended-append l.hours l.minutes nothing_yet es new)
       (sym (rows_append t 0 [] (ended es) (ended_of l.hours l.minutes (carried es) new) ∙ rw zero-add))
-  rows-by (Denied r) es new = append-nil (rows_of t 0 [] (ended es))
+  rows-by (Err r) es new = append-nil (rows_of t 0 [] (ended es))
 
   -- ---- what the refusals see to
 
   sound-by : (v : Verdict) (es : List Event) (x : Call) → verdict_on t l.hours l.minutes es x ≡ v → Kept l start.no-bars es → Sound t (ended es) → Sound t (ended (leaves v es (es ++ events_in x)))
-  sound-by Accepted es x e k s =
+  sound-by (Ok tt) es x e k s =
       let c = carried_of l.hours l.minutes nothing_yet es in
       let new = ended_of l.hours l.minutes c (events_in x) in
       let met = fits _ _ _ _ (events-feed l start.no-bars es x k e) in
       let four = length-prices new in
       rw (ended-append l.hours l.minutes nothing_yet es (events_in x)) record { few = rw length-append (omega (arith, met.few)); valid = λ some. met.valid }
-  sound-by (Denied r) es x e k s = s
+  sound-by (Err r) es x e k s = s
 
   sound-after : (xs : List Call) → Sound t (ended (events_after t l.hours l.minutes [] xs))
   unfolding ended_of
@@ -193,8 +194,8 @@ module _ (l : Layer) (start : NoneYet l) where
 -- ---- the layer that making gives
 
 by_verdict : (v : Verdict) (t : Thresholds) (h : Hours) (m : ℕ) → NoneYet (made_by v t h m)
-by_verdict Accepted t h m = record { nothing = refl; no-bars = fresh-none t }
-by_verdict (Denied r) t h m = record { nothing = refl; no-bars = fresh-none standard_set }
+by_verdict (Ok tt) t h m = record { nothing = refl; no-bars = fresh-none t }
+by_verdict (Err r) t h m = record { nothing = refl; no-bars = fresh-none standard_set }
 
 made-any : (t : Thresholds) (h : Hours) (m : ℕ) → NoneYet (made_of t h m).after
 unfolding made_of
@@ -215,19 +216,19 @@ valid_same g h m c w = rw (w, c)
 
 valid-by : (v : Verdict) (t : Thresholds) (h : Hours) (m : ℕ) → length h.windows ≡ most_windows → make_verdict t h m ≡ v → Valid (made_by v t h m)
 unfolding make_verdict Valid with_zeros
-valid-by Accepted t h m full e =
+valid-by (Ok tt) t h m full e =
     let three = none_true _ _ e in
     let twelve = none_true _ _ three.1 in
     (not-false _ three.0, valid_same (with_zeros h) h m refl (zeros-windows h full) ∙ not-false _ twelve.0)
-valid-by (Denied r) t h m full e = (standard-valid, standard-layer)
+valid-by (Err r) t h m full e = (standard-valid, standard-layer)
 
 made-valid : (t : Thresholds) (h : Hours) (m : ℕ) → length h.windows ≡ most_windows → Valid (made_of t h m).after
 unfolding made_of
 made-valid t h m full = valid-by (make_verdict t h m) t h m full refl
 
 made-by-same : (v : Verdict) (t : Thresholds) (g h : Hours) (m : ℕ) → with_zeros g ≡ with_zeros h → made_by v t g m ≡ made_by v t h m
-made-by-same Accepted t g h m e = rw e
-made-by-same (Denied r) t g h m e = refl
+made-by-same (Ok tt) t g h m e = rw e
+made-by-same (Err r) t g h m e = refl
 
 made-same : (t : Thresholds) (g h : Hours) (m : ℕ) → g.count ≡ h.count → windows_of g ≡ windows_of h → made_of t g m ≡ made_of t h m
 unfolding made_of make_verdict with_zeros

@@ -1,9 +1,10 @@
 -- 02, P6: what every list of calls leaves. The first part builds one plain list of events from what the accepted calls were lent; the second follows
 -- the calls by the definitions that the contracts cite; the third says how the two agree.
+use Rattle.std.specs.Prelude.{Ok}
+use Rattle.answers.specs.Refusal.{Verdict}
 use Rattle.std.specs.Prelude.{ℕ, ◌*◌, ◌≤◌, ◌<◌, ◌≡◌, ◌⊎◌, Bool, true, ◌&&◌, List, [], ◌∷◌, ◌++◌, length, get_or, take, Float}
 use Rattle.measures.specs.Bar.{Bar, bars_of}
 use Rattle.recognisers.specs.Threshold.{Thresholds, valid_of}
-use Rattle.answers.specs.declared.refusals.Verdict.{Verdict, TheVariants.Accepted}
 use Rattle.recognisers.specs.Number.{row_bytes}
 use Rattle.recognisers.specs.Refusal.{leaves}
 use Rattle.bar_box.specs.Calls.{after, each, joined}
@@ -111,7 +112,7 @@ pub record Holds (l : Layer) (xs : List Call) (es : List Event) (ended : List Ba
   -- their limits, where every call is refused
   pub same_rows : joined_rows l xs ≡ rows_in l.inner (one_feed ended sheet)
   pub same-box : (layer_after l xs).inner ≡ (fed l.inner (one_feed ended sheet)).after
-  pub accepted : valid_of l.inner.thresholds ≡ true → (fed l.inner (one_feed ended sheet)).verdict ≡ Accepted
+  pub accepted : valid_of l.inner.thresholds ≡ true → (fed l.inner (one_feed ended sheet)).verdict ≡ Ok tt
   -- demand 3 for that feed: each row has the pairs over all term bars up to it, and looks at the box give the printed pairs
   pub demand-3 : BoxHolds l.inner (one_feed ended sheet ∷ []) ended sheet
   -- (d) the kept stamp and the open term bar are those of the events; hours and term length stay
@@ -136,7 +137,7 @@ pub record TermCalls : Type 0 where
       → events_after l.inner.thresholds l.hours l.minutes [] xs ≡ events_after l.inner.thresholds l.hours l.minutes [] ys
       → (layer_after l xs ≡ layer_after l ys) × (joined_rows l xs ≡ joined_rows l ys)
   -- the box's own feed of the term bars that end in a call is never refused where the call isn't, whatever layer is handed in
-  pub box-accepts : (l : Layer) (x : Call) → (called l x).verdict ≡ Accepted → (fed l.inner (one_feed (ended_in l (events_in x)) (lent_sheet x))).verdict ≡ Accepted
+  pub box-accepts : (l : Layer) (x : Call) → (called l x).verdict ≡ Ok tt → (fed l.inner (one_feed (ended_in l (events_in x)) (lent_sheet x))).verdict ≡ Ok tt
   -- what making gives is such a layer, with thresholds inside their limits and hours, term length and carried bar that keep the rules; it is the
   -- same for hours with the same windows in use
   pub made : (t : Thresholds) (h : Hours) (m : ℕ) → NoneYet (made_of t h m).after

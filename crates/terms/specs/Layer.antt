@@ -1,8 +1,9 @@
 -- 02, P6: the layer, its making, a run and a close, for every layer that a caller can hand in.
+use Rattle.std.specs.Prelude.{Err, Ok}
+use Rattle.answers.specs.Refusal.{Verdict}
 use Rattle.std.specs.Prelude.{ℕ, List, [], ◌∷◌, length, Float}
 use Rattle.measures.specs.Bar.{Bar, bars_of, prices_of}
 use Rattle.recognisers.specs.Threshold.{Thresholds, standard_set}
-use Rattle.answers.specs.declared.refusals.Verdict.{Verdict, TheVariants.Accepted, TheVariants.Denied}
 use Rattle.recognisers.specs.Refusal.{leaves}
 use Rattle.box_record.specs.declared.boxes.BarBox.{BarBox}
 use Rattle.bar_box.specs.Box.{fresh_box, fed_of, sheet_of}
@@ -33,8 +34,8 @@ taken v rows l = record { after = l; rows = rows; verdict = v }
 
 -- "A refused making returns a fresh layer with the standard set, one window 0 to 1,440 and m = 5"
 abbrev pub made_by : Verdict → Thresholds → Hours → ℕ → Layer
-made_by Accepted t h m = fresh_layer t (with_zeros h) m
-made_by (Denied r) t h m = fresh_layer standard_set whole_day 5
+made_by (Ok tt) t h m = fresh_layer t (with_zeros h) m
+made_by (Err r) t h m = fresh_layer standard_set whole_day 5
 
 unfoldable pub made_of : Thresholds → Hours → ℕ → Taken
 made_of t h m = let v = make_verdict t h m in taken v 0 (made_by v t h m)

@@ -1,7 +1,7 @@
 // Making, a run of bars and a close.
 ghost use Rattle.std.specs.Prelude.{◌≡◌, [], ◌∷◌, ◌+◌, ◌*◌, ◌≤◌, length, take, drop};
 ghost use Rattle.measures.specs.Bar.{bars_of, overlay, prices_of};
-ghost use Rattle.answers.specs.declared.refusals.Verdict.TheVariants.{Accepted};
+ghost use Rattle.std.specs.Prelude.{Ok};
 ghost use Rattle.recognisers.specs.Number.{row_bytes};
 ghost use Rattle.recognisers.specs.Refusal.{leaves, verdict_number, feed_verdict};
 ghost use Rattle.bar_box.specs.Sheet.{rows_of};
@@ -28,7 +28,7 @@ const ROOM_BARS: usize = 32;
 // Feeds the first n bars of a run of prices; their rows go to a row of the sheet and those after it. What the feed hands back is handed on: a
 // box that is taken out of it is copied.
 fn feed_front(b: BarBox, run: &[f64], n: usize, sheet: &mut [u8], row: usize) -> Outcome
-    requires { (feed_verdict b.thresholds b.count (4 * n) (row_bytes * n) ≡ Accepted) × ((4 * n ≤ length run.now) × (row_bytes * (row + n) ≤ length sheet.old)) }
+    requires { (feed_verdict b.thresholds b.count (4 * n) (row_bytes * n) ≡ Ok tt) × ((4 * n ≤ length run.now) × (row_bytes * (row + n) ≤ length sheet.old)) }
     ensures { (result.after ≡ taken_in b (bars_of (take (4 * n) run.now))) × (sheet.new ≡ overlay sheet.old (row_bytes * row) (rows_of b.thresholds b.count (kept b) (bars_of (take (4 * n) run.now)))) }
 {
     let end = 4 * n;
@@ -56,7 +56,7 @@ fn take_bars(
     from: usize,
     sheet: &mut [u8],
 ) -> Progress
-    requires { (Ready h m c (drop from stamps.now)) × (length stamps.now ≡ length (bars_of prices.now)) × (from ≤ length stamps.now) × (feed_verdict b.thresholds b.count (length prices.now) (length sheet.old) ≡ Accepted) }
+    requires { (Ready h m c (drop from stamps.now)) × (length stamps.now ≡ length (bars_of prices.now)) × (from ≤ length stamps.now) × (feed_verdict b.thresholds b.count (length prices.now) (length sheet.old) ≡ Ok tt) }
     ensures { let es = drop from (minutes_of stamps.now (bars_of prices.now)) in
         (result ≡ progress_of h m c b es) × (sheet.new ≡ overlay sheet.old 0 (rows_of b.thresholds b.count (kept b) (ended_of h m c es))) }
 {
@@ -81,12 +81,12 @@ fn take_bars(
 }
 
 // The bar from which on a run is taken in, by its verdict: the first, or the one past the last if it is refused.
-fn first_taken(v: Verdict, bars: usize) -> usize
+fn first_taken(v: Result<(), Refusal>, bars: usize) -> usize
     ensures { result ≡ leaves v bars 0 }
 {
     match v {
-        Verdict::Accepted => 0,
-        Verdict::Denied(_) => bars,
+        Ok(()) => 0,
+        Err(_) => bars,
     }
 }
 
@@ -140,12 +140,12 @@ pub fn run(l: Layer, prices: &[f64], stamps: &[u32], sheet: &mut [u8]) -> Taken
 }
 
 // The term bar that a close ends, by its verdict: the open one, or none if it is refused.
-fn ended_by(v: Verdict, pending: OpenBar) -> OpenBar
+fn ended_by(v: Result<(), Refusal>, pending: OpenBar) -> OpenBar
     ensures { result ≡ leaves v Nothing pending }
 {
     match v {
-        Verdict::Accepted => pending,
-        Verdict::Denied(_) => OpenBar::Nothing,
+        Ok(()) => pending,
+        Err(_) => OpenBar::Nothing,
     }
 }
 

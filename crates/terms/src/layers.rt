@@ -25,7 +25,7 @@ pub struct Layer {
 pub struct Taken {
     pub after: Layer,
     pub rows: usize,
-    pub verdict: Verdict,
+    pub verdict: Result<(), Refusal>,
 }
 
 // One window from 0 to 1,440.
@@ -41,30 +41,30 @@ fn whole_day() -> Hours
 }
 
 // The thresholds, hours and term length of a making by its verdict: those asked for, or those of a refused one.
-pub(crate) fn thresholds_by(v: Verdict, t: Thresholds) -> Thresholds
+pub(crate) fn thresholds_by(v: Result<(), Refusal>, t: Thresholds) -> Thresholds
     ensures { result ≡ leaves v standard_set t }
 {
     match v {
-        Verdict::Accepted => t,
-        Verdict::Denied(_) => Thresholds::standard(),
+        Ok(()) => t,
+        Err(_) => Thresholds::standard(),
     }
 }
 
-pub(crate) fn hours_by(v: Verdict, h: Hours) -> Hours
+pub(crate) fn hours_by(v: Result<(), Refusal>, h: Hours) -> Hours
     ensures { result ≡ leaves v whole_day (with_zeros h) }
 {
     match v {
-        Verdict::Accepted => hours::with_zeros(h),
-        Verdict::Denied(_) => whole_day(),
+        Ok(()) => hours::with_zeros(h),
+        Err(_) => whole_day(),
     }
 }
 
-pub(crate) fn minutes_by(v: Verdict, m: u32) -> u32
+pub(crate) fn minutes_by(v: Result<(), Refusal>, m: u32) -> u32
     ensures { result ≡ leaves v 5 m }
 {
     match v {
-        Verdict::Accepted => m,
-        Verdict::Denied(_) => 5,
+        Ok(()) => m,
+        Err(_) => 5,
     }
 }
 

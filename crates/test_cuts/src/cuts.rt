@@ -44,10 +44,10 @@ pub struct Left {
 }
 
 // 0, or the number of the refusal.
-pub fn verdict_number(v: Verdict) -> u64 {
+pub fn verdict_number(v: Result<(), Refusal>) -> u64 {
     match v {
-        Verdict::Accepted => 0,
-        Verdict::Denied(why) => refusal_number(why) as u64,
+        Ok(()) => 0,
+        Err(why) => refusal_number(why) as u64,
     }
 }
 

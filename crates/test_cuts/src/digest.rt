@@ -85,7 +85,7 @@ pub fn mix_look(d: u64, number: u32, ordinal: u64) -> u64 {
     mix(mix(d, number as u64), ordinal)
 }
 
-fn mix_answer(d: u64, a: LookAnswer) -> u64 {
+fn mix_answer(d: u64, a: Result<Judged, Refusal>) -> u64 {
     mix_look(d, answer_number(answer_in(a)), ordinal_in(a) as u64)
 }
 

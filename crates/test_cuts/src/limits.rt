@@ -70,7 +70,7 @@ pub fn write_places(b: BarBox) {
 }
 
 // The judged bar's ordinal; a refused look has none.
-fn write_ordinal(a: LookAnswer) {
+fn write_ordinal(a: Result<Judged, Refusal>) {
     if answer_number(answer_in(a)) < 65536 {
         print::number(b" ordinal ", ordinal_in(a) as u64);
     }

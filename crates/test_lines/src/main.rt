@@ -30,8 +30,8 @@ use text::{Line, read_line};
 fn write_said(line: Line) {
     let verdict = line_verdict(line);
     match verdict {
-        Verdict::Accepted => print::text(b":0"),
-        Verdict::Denied(why) => print::number(b":", refusal_number(why) as u64),
+        Ok(()) => print::text(b":0"),
+        Err(why) => print::number(b":", refusal_number(why) as u64),
     }
     match line {
         Line::Prices(bar) => {

@@ -45,10 +45,10 @@ fn with_more(
     next
 }
 
-fn write_verdict(verdict: Verdict) {
+fn write_verdict(verdict: Result<(), Refusal>) {
     match verdict {
-        Verdict::Accepted => print::text(b": 0\n"),
-        Verdict::Denied(why) => {
+        Ok(()) => print::text(b": 0\n"),
+        Err(why) => {
             print::number(b": ", refusal_number(why) as u64);
             print::text(b"\n");
         }

@@ -18,10 +18,10 @@ pub fn no_hours() -> Hours {
     }
 }
 
-fn refusal(v: Verdict) -> u64 {
+fn refusal(v: Result<(), Refusal>) -> u64 {
     match v {
-        Verdict::Accepted => 0,
-        Verdict::Denied(why) => refusal_number(why) as u64,
+        Ok(()) => 0,
+        Err(why) => refusal_number(why) as u64,
     }
 }
 

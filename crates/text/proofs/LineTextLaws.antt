@@ -1,4 +1,6 @@
 -- A line of prices: the bytes of it that are enough to tell, and its verdict. Assumes nothing.
+use Rattle.std.specs.Prelude.{Err, Ok}
+use Rattle.answers.specs.Refusal.{Verdict}
 use Prim.Native.Nat.{ℕ, suc, ◌≤◌, ◌<◌}
 use mathlib.Core.Bool.{Bool, true, false, cond}
 use mathlib.Core.List.{List, [], ◌∷◌}
@@ -10,7 +12,6 @@ use lib.ListN.{length, length-take, length-map}
 use lib.Seq.{take_all}
 use Rattle.recognisers.specs.Number.{longest_line}
 use Rattle.answers.specs.declared.refusals.Refusal.TheVariants as refusal
-use Rattle.answers.specs.declared.refusals.Verdict.{Verdict, TheVariants.Accepted, TheVariants.Denied}
 use Rattle.recognisers.specs.Refusal.{bad_shape, bad_price, first_true, verdict_number}
 use Rattle.price_texts.specs.declared.price_text.Price.{Price}
 use Rattle.input_lines.specs.Lines.{kept_line}
@@ -55,7 +56,7 @@ module _ (bytes : ℕ) (fields : List Price) where
   unfolding line_verdict first_true
   said = go (bad_shape bytes (length fields)).met (bad_price bytes (length fields) (all_prices fields)).met
     where
-      go : (a b : Bool) → let v = cond a (Denied refusal.BadShape) (cond b (Denied refusal.BadPrice) Accepted) in
+      go : (a b : Bool) → let v = cond a (Err refusal.BadShape) (cond b (Err refusal.BadPrice) (Ok tt)) in
           (verdict_of (answer_to v fields) ≡ v) × (places_in (answer_to v fields) ≡ place v)
       go true b = (refl, refl)
       go false true = (refl, refl)

@@ -1,5 +1,7 @@
 -- The same lines are accepted as by 01's words for refusal 8, with the same prices; every other is refused by 8 or by 9, and 9 names the
 -- leftmost field that is no price. Assumes nothing.
+use Rattle.std.specs.Prelude.{Err, Ok}
+use Rattle.answers.specs.Refusal.{Verdict}
 use Prim.Native.Nat.{ℕ, ◌-◌, ◌≤◌, ◌<◌}
 use mathlib.Core.Bool.{Bool, true, false, cond, not, ◌&&◌, ◌||◌, true≢false, false≢true}
 use mathlib.Core.List.{List, [], ◌∷◌}
@@ -11,7 +13,6 @@ use lib.Ieee.{nan}
 use lib.ListN.{length, get_or, take}
 use Rattle.measures.specs.Bar.{Bar, bar_of, no_bar}
 use Rattle.answers.specs.declared.refusals.Refusal.TheVariants as refusal
-use Rattle.answers.specs.declared.refusals.Verdict.{Verdict, TheVariants.Accepted, TheVariants.Denied}
 use Rattle.recognisers.specs.Number.{longest_line}
 use Rattle.recognisers.specs.Refusal.{first_true}
 use Rattle.price_texts.specs.declared.price_text.Price.{Price, TheVariants.Value, TheVariants.Bad}
@@ -80,11 +81,11 @@ abbrev by9 : Bool → Bool → Bool → Bool
 by9 short four all = short && four && not all
 
 abbrev first : Bool → Bool → Verdict
-first a b = cond a (Denied refusal.BadShape) (cond b (Denied refusal.BadPrice) Accepted)
+first a b = cond a (Err refusal.BadShape) (cond b (Err refusal.BadPrice) (Ok tt))
 
 first-by-01 : (short four all : Bool)
     → first (by8 short four) (by9 short four all)
-    ≡ cond (short && (four && all)) Accepted (cond (by8 short four) (Denied refusal.BadShape) (Denied refusal.BadPrice))
+    ≡ cond (short && (four && all)) (Ok tt) (cond (by8 short four) (Err refusal.BadShape) (Err refusal.BadPrice))
 first-by-01 true true true = refl
 first-by-01 true true false = refl
 first-by-01 true false all = refl

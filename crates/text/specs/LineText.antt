@@ -1,9 +1,10 @@
 -- "The other ways in", text: a line is open,close,high,low; and why a line is refused, by 8 or 9.
+use Rattle.std.specs.Prelude.{Err, Ok}
+use Rattle.answers.specs.Refusal.{Verdict}
 use Rattle.std.specs.Prelude.{ℕ, suc, Bool, true, false, cond, ◌&&◌, List, [], ◌∷◌, map, eqb, length, get_or, Float}
 use Rattle.std.specs.Float.{nan}
 use Rattle.measures.specs.Bar.{bar_of}
 use Rattle.answers.specs.declared.refusals.Refusal.TheVariants as refusal
-use Rattle.answers.specs.declared.refusals.Verdict.{Verdict, TheVariants.Accepted, TheVariants.Denied}
 use Rattle.recognisers.specs.Refusal.{refusal_number, bad_shape, bad_price, first_true, verdict_number}
 use Rattle.price_texts.specs.declared.price_text.Price.{Price, TheVariants.Value, TheVariants.Bad}
 use Rattle.text.specs.declared.line_text.Line.{Line, TheVariants.Prices, TheVariants.BadShape, TheVariants.BadPrice}
@@ -58,8 +59,8 @@ value_at fields i = value_of (get_or fields i Bad)
 
 -- the bar; 9 with the place; 8 alone
 abbrev pub answer_to : Verdict → List Price → Line
-answer_to Accepted fields = Prices (bar_of (value_at fields 0) (value_at fields 1) (value_at fields 2) (value_at fields 3))
-answer_to (Denied r) fields = cond (eqb (refusal_number r) 9) (BadPrice (leftmost_bad fields)) BadShape
+answer_to (Ok tt) fields = Prices (bar_of (value_at fields 0) (value_at fields 1) (value_at fields 2) (value_at fields 3))
+answer_to (Err r) fields = cond (eqb (refusal_number r) 9) (BadPrice (leftmost_bad fields)) BadShape
 
 -- of a line of so many bytes with these fields, and of the line itself
 unfoldable pub said_of : ℕ → List Price → Line
@@ -71,9 +72,9 @@ line_of s = said_of (length s) (prices_in s)
 -- ---- this paper's number and values for each answer: none, 8 alone, 9 with the place
 
 abbrev pub verdict_of : Line → Verdict
-verdict_of (Prices bar) = Accepted
-verdict_of BadShape = Denied refusal.BadShape
-verdict_of (BadPrice place) = Denied refusal.BadPrice
+verdict_of (Prices bar) = Ok tt
+verdict_of BadShape = Err refusal.BadShape
+verdict_of (BadPrice place) = Err refusal.BadPrice
 
 abbrev pub places_in : Line → List ℕ
 places_in (Prices bar) = []

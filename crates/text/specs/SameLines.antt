@@ -1,10 +1,10 @@
 -- Refusals 8 and 9 of a text line beside 01's words for 8 alone, "longer than 80 bytes or is not four prices": the same lines are
 -- accepted, with the same prices, and every other is refused by one of the two. proofs/SameLines.antt shows it of every line.
+use Rattle.std.specs.Prelude.{Err, Ok}
 use Rattle.std.specs.Prelude.{ℕ, ◌-◌, ◌≤◌, Bool, true, false, cond, not, ◌&&◌, ◌||◌, List, [], ◌∷◌, ◌↔◌, ◌≡◌, leb, eqb, length, get_or, take}
 use Rattle.std.specs.Float.{nan}
 use Rattle.measures.specs.Bar.{Bar}
 use Rattle.answers.specs.declared.refusals.Refusal.TheVariants as refusal
-use Rattle.answers.specs.declared.refusals.Verdict.TheVariants.{Accepted, Denied}
 use Rattle.recognisers.specs.Number.{longest_line}
 use Rattle.recognisers.specs.Refusal.{bad_shape, bad_price}
 use Rattle.price_texts.specs.declared.price_text.Price.{Price, TheVariants.Value, TheVariants.Bad}
@@ -33,7 +33,7 @@ Leftmost fields place =
 
 pub record SameLines (s : List ℕ) : Type 0 where
   -- accepted exactly if 01 accepts it, refused by 8 or 9 otherwise
-  pub verdict : verdict_of (line_of s) ≡ cond (accepted_by01 s) Accepted (cond (met8 s) (Denied refusal.BadShape) (Denied refusal.BadPrice))
+  pub verdict : verdict_of (line_of s) ≡ cond (accepted_by01 s) (Ok tt) (cond (met8 s) (Err refusal.BadShape) (Err refusal.BadPrice))
   pub refused : (met8 s || met9 s) ≡ not (accepted_by01 s)
   -- never by both tests at once
   pub never_both : (met8 s && met9 s) ≡ false

@@ -119,12 +119,12 @@ pub fn read_partial(line: Partial) -> Line
 }
 
 // Refusal 8 or 9, or none.
-pub fn line_verdict(line: Line) -> Verdict
+pub fn line_verdict(line: Line) -> Result<(), Refusal>
     ensures { result ≡ verdict_of line }
 {
     match line {
-        Line::Prices(_) => Verdict::Accepted,
-        Line::BadShape => Verdict::Denied(Refusal::BadShape),
-        Line::BadPrice(_) => Verdict::Denied(Refusal::BadPrice),
+        Line::Prices(_) => Ok(()),
+        Line::BadShape => Err(Refusal::BadShape),
+        Line::BadPrice(_) => Err(Refusal::BadPrice),
     }
 }

@@ -1,8 +1,8 @@
 -- Both cases are those of the definition. Assumes nothing.
 use Rattle.answers.proofs.answer_number.Goals as goal
 
-pub returns-in-Labels : goal.returns-in-Labels
-returns-in-Labels c = simp (c.pair_number.ensures, c.in-Labels.is)
+pub returns-in-Ok : goal.returns-in-Ok
+returns-in-Ok c = simp (c.pair_number.ensures, c.in-Ok.is)
 
-pub returns-in-Refused : goal.returns-in-Refused
-returns-in-Refused c = simp (c.refusal_number.ensures, c.in-Refused.is)
+pub returns-in-Err : goal.returns-in-Err
+returns-in-Err c = simp (c.refusal_number.ensures, c.in-Err.is)

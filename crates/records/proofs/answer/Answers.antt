@@ -2,9 +2,9 @@
 use mathlib.Core.Path.{◌∙◌, sym}
 use Rattle.records.proofs.answer.Goals as goal
 
-pub returns-in-Denied : goal.returns-in-Denied
-returns-in-Denied c = simp (sym c.plain_verdict.ensures ∙ c.in-Denied.is)
+pub returns-in-Err : goal.returns-in-Err
+returns-in-Err c = simp (sym c.plain_verdict.ensures ∙ c.in-Err.is)
 
-pub returns-in-Accepted : goal.returns-in-Accepted
-returns-in-Accepted c =
-    simp (sym c.plain_verdict.ensures ∙ c.in-Accepted.is, c.pair_in.ensures)
+pub returns-in-Ok : goal.returns-in-Ok
+returns-in-Ok c =
+    simp (sym c.plain_verdict.ensures ∙ c.in-Ok.is, c.pair_in.ensures)

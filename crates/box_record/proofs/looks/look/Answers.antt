@@ -1,4 +1,7 @@
 -- A refusal is the answer alone; otherwise the pair is that of the kept bars, and the ordinal is told by N. Assumes nothing.
+use Rattle.std.specs.Prelude.{Err, Ok}
+use Rattle.answers.specs.Refusal.{Verdict}
+use Rattle.answers.specs.Answer.{LookAnswer}
 use Prim.Native.Nat.{ℕ}
 use mathlib.Core.List.{[], ◌∷◌}
 use mathlib.Core.Path.{◌≡◌, ◌∙◌, sym}
@@ -6,9 +9,6 @@ use Rattle.measures.specs.Window.{up_to}
 use Rattle.recognisers.specs.Label.{Pair}
 use Rattle.recognisers.specs.Table.{pair_at, codes_of}
 use Rattle.recognisers.specs.Refusal.{verdict_number, leaves, answer_to, refusal_in, codes_in, answer_in, ordinal_in, look_verdict, with_ordinal}
-use Rattle.answers.specs.declared.refusals.Verdict.{Verdict, TheVariants.Accepted, TheVariants.Denied}
-use Rattle.answers.specs.declared.Answer.TheVariants.{Labels}
-use Rattle.answers.specs.declared.LookAnswer.{LookAnswer, TheVariants.Judged, TheVariants.Refused}
 use Rattle.box_record.specs.declared.boxes.BarBox.{BarBox}
 use Rattle.box_record.specs.Box.{kept, look_of, look_answer_of}
 use Rattle.box_record.proofs.looks.look.Goals as goal
@@ -21,28 +21,28 @@ module _ (b : BarBox) (k di : ℕ) where
   abbrev pair : Pair
   pair = pair_at k b.thresholds b.count (kept b) di
 
-  values-in : (r : LookAnswer) (v : Verdict) → r ≡ with_ordinal (answer_to v (Labels pair)) (up_to b.count di)
+  values-in : (r : LookAnswer) (v : Verdict) → r ≡ with_ordinal (answer_to v (Ok pair)) (up_to b.count di)
       → (refusal_in (answer_in r) ≡ verdict_number v) × ((codes_in (answer_in r) ≡ leaves v [] (codes_of (pair ∷ []))) × (ordinal_in r ≡ leaves v 0 (up_to b.count di)))
-  values-in r Accepted e = (rw e, (rw e, rw e))
-  values-in r (Denied why) e = (rw e, (rw e, rw e))
+  values-in r (Ok tt) e = (rw e, (rw e, rw e))
+  values-in r (Err why) e = (rw e, (rw e, rw e))
 
   values : (r : LookAnswer) → r ≡ look_answer_of b k di
       → (refusal_in (answer_in r) ≡ verdict_number verdict) × ((codes_in (answer_in r) ≡ leaves verdict [] (codes_of (pair ∷ []))) × (ordinal_in r ≡ leaves verdict 0 (up_to b.count di)))
   unfolding look_answer_of look_of
   values r = values-in r verdict
 
-pub returns-in-Denied : goal.returns-in-Denied
+pub returns-in-Err : goal.returns-in-Err
 unfolding look_answer_of look_of
-returns-in-Denied c =
+returns-in-Err c =
     let args = c.args in
-    let e : Refused c.in-Denied.why ≡ look_answer_of args.b args.k args.di = simp (sym c.look_verdict.ensures ∙ c.in-Denied.is) in
+    let e : Err c.in-Err.why ≡ look_answer_of args.b args.k args.di = simp (sym c.look_verdict.ensures ∙ c.in-Err.is) in
     let told = values args.b args.k args.di _ e in
     record { answer = e; number = told.0; values = told.1 }
 
-pub returns-in-Accepted : goal.returns-in-Accepted
+pub returns-in-Ok : goal.returns-in-Ok
 unfolding look_answer_of look_of
-returns-in-Accepted c =
+returns-in-Ok c =
     let args = c.args in
-    let e : Judged c.pair_back.result c.judged_ordinal.result ≡ look_answer_of args.b args.k args.di = simp (sym c.look_verdict.ensures ∙ c.in-Accepted.is, c.pair_back.ensures, c.judged_ordinal.ensures) in
+    let e : Ok (record { pair = c.pair_back.result; ordinal = c.judged_ordinal.result }) ≡ look_answer_of args.b args.k args.di = simp (sym c.look_verdict.ensures ∙ c.in-Ok.is, c.pair_back.ensures, c.judged_ordinal.ensures) in
     let told = values args.b args.k args.di _ e in
     record { answer = e; number = told.0; values = told.1 }

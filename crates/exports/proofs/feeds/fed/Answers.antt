@@ -1,8 +1,9 @@
 -- The fresh tally adds up, so that feeds that bring it along are those without one. Assumes nothing.
+use Rattle.std.specs.Prelude.{Err, Ok}
+use Rattle.answers.specs.Refusal.{Verdict}
 use mathlib.Core.Path.{◌≡◌, refl, ◌∙◌}
 use lib.ListN.{length}
 use Rattle.measures.specs.Bar.{bars_of, overlay}
-use Rattle.answers.specs.declared.refusals.Verdict.{Verdict, TheVariants.Accepted, TheVariants.Denied}
 use Rattle.recognisers.specs.Refusal.{leaves, feed_verdict}
 use Rattle.bar_box.specs.Box.{fresh_box, taken_in, fed_of, sheet_of}
 use Rattle.bar_box.proofs.PartLaws.{rows_from}
@@ -13,8 +14,8 @@ use Rattle.tallies.proofs.RowLaws.{fresh-adds}
 use Rattle.exports.proofs.feeds.fed.Goals as goal
 
 twice : {A : Type 0} (v : Verdict) (x y : A) → leaves v x (leaves v x y) ≡ leaves v x y
-twice Accepted x y = refl
-twice (Denied r) x y = refl
+twice (Ok tt) x y = refl
+twice (Err r) x y = refl
 
 pub returns : goal.returns
 unfolding tallied_of tallied_sheet fed_of sheet_of

@@ -5,14 +5,14 @@ use Rattle.bar_box.specs.Box.{look_answer_of}
 use Rattle.exports.specs.Feeds.{look_after}
 use Rattle.exports.proofs.feeds.look_after.Goals as goal
 
-pub returns-in-Denied : goal.returns-in-Denied
+pub returns-in-Err : goal.returns-in-Err
 unfolding look_after
-returns-in-Denied c =
-    let denied = sym (ap (λ (o : Outcome). o.verdict) c.fed-out.ensures.0) ∙ c.in-Denied.is in
+returns-in-Err c =
+    let denied = sym (ap (λ (o : Outcome). o.verdict) c.fed-out.ensures.0) ∙ c.in-Err.is in
     (rw denied, c.fed-out.ensures.1)
 
-pub returns-in-Accepted : goal.returns-in-Accepted
+pub returns-in-Ok : goal.returns-in-Ok
 unfolding look_after look_answer_of
-returns-in-Accepted c =
-    let accepted = sym (ap (λ (o : Outcome). o.verdict) c.fed-out.ensures.0) ∙ c.in-Accepted.is in
+returns-in-Ok c =
+    let accepted = sym (ap (λ (o : Outcome). o.verdict) c.fed-out.ensures.0) ∙ c.in-Ok.is in
     (c.look.ensures.answer ∙ rw (c.fed-out.ensures.0, accepted), c.fed-out.ensures.1)

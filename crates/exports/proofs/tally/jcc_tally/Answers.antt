@@ -5,7 +5,7 @@ use Rattle.bar_box.specs.Box.{fresh_box}
 use Rattle.tallies.specs.declared.feeds.Tallied.{Tallied}
 use Rattle.exports.proofs.TallyLaws.{tallied-is, sheet-is, numbers-refused, numbers-accepted}
 use Rattle.exports.proofs.tally.jcc_tally.Goals as goal
-use Rattle.exports.proofs.tally.jcc_tally.Goals.{in-Accepted, in_default}
+use Rattle.exports.proofs.tally.jcc_tally.Goals.{in-Ok, in_default}
 
 pub returns : goal.returns
 returns c =
@@ -15,7 +15,7 @@ returns c =
       c.verdict_number.ensures ∙ ap (λ (o : Tallied). verdict_number o.verdict) one,
       sheet-is _ _ _ _ _ same-box same-tally _ c.feed_parts-fed.ensures.1,
       elim c.match-verdict.branch [
-        | in-Accepted w ↦ numbers-accepted _ _ one _ w.in-Accepted.is _ (w.numbers-is ∙ w.put.ensures)
+        | in-Ok w ↦ numbers-accepted _ _ one _ w.in-Ok.is _ (w.numbers-is ∙ w.put.ensures)
         | in_default w ↦ w.numbers-is ∙ numbers-refused _ _ one _ _ w.in_default.is
       ],
     )

@@ -7,22 +7,22 @@ use Rattle.output_lines.proofs.OutputLaws.{written}
 use Rattle.label_lines.proofs.SessionLaws.{fed-refused, fed-left, fed-accepted}
 use Rattle.label_lines.proofs.session.feed_bar.Goals as goal
 
-pub returns-in-Denied : goal.returns-in-Denied
+pub returns-in-Err : goal.returns-in-Err
 unfolding put_bar prices_of
-returns-in-Denied c =
+returns-in-Err c =
     let args = c.args in
     let is = rw c.put_bar.ensures at c.feed-fed.ensures in
-    let denied = c.in-Denied.is in
+    let denied = c.in-Err.is in
     let law = fed-refused args.held args.bar c.feed-fed.result is.answer _ denied in
     let left = fed-left args.held args.bar c.feed-fed.result is.answer _ denied in
     let wrote = c.print_refusal-end.ensures in
     rw law (left, refl, omega (arith, wrote.within), written longest_refusal _ args.out.now args.at _ _ (omega arith) wrote.printed)
 
-pub returns-in-Accepted : goal.returns-in-Accepted
+pub returns-in-Ok : goal.returns-in-Ok
 unfolding put_bar prices_of
-returns-in-Accepted c =
+returns-in-Ok c =
     let args = c.args in
     let is = rw c.put_bar.ensures at c.feed-fed.ensures in
-    let law = fed-accepted args.held args.bar c.feed-fed.result is.answer c.in-Accepted.is in
+    let law = fed-accepted args.held args.bar c.feed-fed.result is.answer c.in-Ok.is in
     let wrote = c.print_rows-end.ensures in
     rw (law, ← is.sheet) (refl, refl, wrote.within, written line_room _ args.out.now args.at _ _ (omega arith) wrote.printed)

@@ -12,14 +12,14 @@ same false x = refl
 pub take_parts-requires : goal.take_parts-requires
 take_parts-requires c =
     let call = c.tally_verdict.ensures in
-    (sym call.0 ∙ c.in-Accepted.is, call.1)
+    (sym call.0 ∙ c.in-Ok.is, call.1)
 
-pub returns-in-Denied : goal.returns-in-Denied
+pub returns-in-Err : goal.returns-in-Err
 unfolding tallied_sheet
-returns-in-Denied c =
+returns-in-Err c =
     let args = c.args in
-    let denied = sym c.tally_verdict.ensures.0 ∙ c.in-Denied.is in
+    let denied = sym c.tally_verdict.ensures.0 ∙ c.in-Err.is in
     (rw (tallied-refused args.b args.tally (lent args.prices.now args.sheet.now) _ denied, same args.counts args.tally), simp denied)
 
-pub returns-in-Accepted : goal.returns-in-Accepted
-returns-in-Accepted c = c.take_parts.ensures
+pub returns-in-Ok : goal.returns-in-Ok
+returns-in-Ok c = c.take_parts.ensures

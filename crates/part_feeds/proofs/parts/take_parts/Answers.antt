@@ -1,5 +1,6 @@
 -- The loop's invariant: the bars passed are taken in and counted, if that is asked for, and their rows stand on the sheet; past the last size
 -- all are. Assumes nothing.
+use Rattle.std.specs.Prelude.{Ok}
 use Prim.Native.Nat.{ℕ, min, ◌+◌, ◌-◌, ◌*◌, ◌≤◌, ◌<◌}
 use mathlib.Core.Path.{◌≡◌, refl, ap, sym, ◌∙◌}
 use mathlib.Core.Bool.{Bool, true, false, cond}
@@ -15,7 +16,6 @@ use Rattle.measures.specs.Bar.{bars_of, overlay}
 use Rattle.measures.proofs.RunLaws.{length-bars}
 use Rattle.measures.proofs.Overlay.{overlay-none}
 use Rattle.recognisers.specs.Number.{places, row_bytes}
-use Rattle.answers.specs.declared.refusals.Verdict.TheVariants.{Accepted}
 use Rattle.box_record.specs.declared.boxes.BarBox.{BarBox}
 use Rattle.box_record.specs.declared.boxes.Outcome.{Outcome}
 use Rattle.bar_box.specs.Sheet.{rows_of}
@@ -39,7 +39,7 @@ same false x = refl
 
 -- the sheet has room for the rows
 sheet-room : (b : BarBox) (tally : List TallyRow) (prices : List Float) (sheet : List ℕ) (total : ℕ) → total ≡ length (bars_of prices)
-    → verdict_with b tally (lent prices sheet) ≡ Accepted → row_bytes * total ≤ length sheet
+    → verdict_with b tally (lent prices sheet) ≡ Ok tt → row_bytes * total ≤ length sheet
 sheet-room b tally prices sheet total e h =
     omega (arith, e, length-bars prices, (fits _ _ _ _ (accepted-plain b tally (lent prices sheet) h)).room)
 
@@ -115,7 +115,7 @@ loop-i-preserved c =
     elim c.if-counts.branch [
       | then-counts w ↦
           let table = inv.5 ∙ ap (λ (x : Bool). brought x (rows_from args.b (take passed bars)) args.tally) w.if-counts.true in
-          let next : w.feed-fed.result ≡ record { verdict = Accepted; after = taken_in args.b (take (passed + n) bars); tally = counted fed-now args.tally } = w.feed-fed.ensures.0 ∙ rw (inv.4, table) (next-tallied args.b all args.tally args.prices.now args.sheet.now s e passed n enough inv.3 inv.6 shaped) in
+          let next : w.feed-fed.result ≡ record { verdict = Ok tt; after = taken_in args.b (take (passed + n) bars); tally = counted fed-now args.tally } = w.feed-fed.ensures.0 ∙ rw (inv.4, table) (next-tallied args.b all args.tally args.prices.now args.sheet.now s e passed n enough inv.3 inv.6 shaped) in
           let sheet : c.if-counts.sheet ≡ overlay args.sheet.now 0 fed-now = w.sheet-is ∙ rw (w.feed-fed.ensures.1, inv.4, table) (next-tallied-sheet args.b all args.tally args.prices.now args.sheet.now s e passed n enough inv.3 inv.6 shaped) in (
             omega (arith, c.part_size-n.ensures.1),
             omega arith,

@@ -22,7 +22,7 @@ pub overflow_mul-bytes : goal.overflow_mul-bytes
 overflow_mul-bytes c =
     let args = c.args in
     let f = lent args.prices.now args.sheet.now in
-    let accepted = sym c.tally_verdict.ensures.0 ∙ c.in-Accepted.is in
+    let accepted = sym c.tally_verdict.ensures.0 ∙ c.in-Ok.is in
     let plain = accepted-plain args.b args.tally f accepted in
     let met = fits _ _ _ _ plain in
     omega (arith, c.count-bytes.ensures, length-bars args.prices.now, met.few)
@@ -31,16 +31,16 @@ pub slice_bounds-count-end : goal.slice_bounds-count-end
 slice_bounds-count-end c =
     let args = c.args in
     let f = lent args.prices.now args.sheet.now in
-    let accepted = sym c.tally_verdict.ensures.0 ∙ c.in-Accepted.is in
+    let accepted = sym c.tally_verdict.ensures.0 ∙ c.in-Ok.is in
     let plain = accepted-plain args.b args.tally f accepted in
     let met = fits _ _ _ _ plain in
     omega (arith, c.count-bytes.ensures, length-bars args.prices.now, met.room, c.feed-fed.auto.sheet)
 
-pub slice_bounds-count-end-in-Accepted : goal.slice_bounds-count-end-in-Accepted
-slice_bounds-count-end-in-Accepted c =
+pub slice_bounds-count-end-in-Ok : goal.slice_bounds-count-end-in-Ok
+slice_bounds-count-end-in-Ok c =
     let args = c.args in
     let f = lent args.prices.now args.sheet.now in
-    let accepted = sym c.tally_verdict.ensures.0 ∙ c.in-Accepted.is in
+    let accepted = sym c.tally_verdict.ensures.0 ∙ c.in-Ok.is in
     let plain = accepted-plain args.b args.tally f accepted in
     let met = fits _ _ _ _ plain in
     let fed = c.feed-fed in
@@ -51,7 +51,7 @@ pub count-requires : goal.count-requires
 count-requires c =
     let args = c.args in
     let f = lent args.prices.now args.sheet.now in
-    let accepted = sym c.tally_verdict.ensures.0 ∙ c.in-Accepted.is in
+    let accepted = sym c.tally_verdict.ensures.0 ∙ c.in-Ok.is in
     let plain = accepted-plain args.b args.tally f accepted in
     let met = fits _ _ _ _ plain in
     let fed = c.feed-fed in
@@ -65,18 +65,18 @@ count-requires c =
       rw written (omega (arith, size, length-bars args.prices.now, met.few)),
     )
 
-pub returns-in-Denied : goal.returns-in-Denied
+pub returns-in-Err : goal.returns-in-Err
 unfolding tallied_of tallied_sheet
-returns-in-Denied c =
-    let denied = sym c.tally_verdict.ensures.0 ∙ c.in-Denied.is in
+returns-in-Err c =
+    let denied = sym c.tally_verdict.ensures.0 ∙ c.in-Err.is in
     (simp denied, simp denied, c.tally_verdict.ensures.1, simp denied)
 
-pub returns-in-Accepted : goal.returns-in-Accepted
+pub returns-in-Ok : goal.returns-in-Ok
 unfolding tallied_sheet
-returns-in-Accepted c =
+returns-in-Ok c =
     let args = c.args in
     let f = lent args.prices.now args.sheet.now in
-    let accepted = sym c.tally_verdict.ensures.0 ∙ c.in-Accepted.is in
+    let accepted = sym c.tally_verdict.ensures.0 ∙ c.in-Ok.is in
     let plain = accepted-plain args.b args.tally f accepted in
     let met = fits _ _ _ _ plain in
     let fed = c.feed-fed in

@@ -1,8 +1,8 @@
 -- By the verdict: the line that has begun stays, or is done with. Assumes nothing.
 use Rattle.tally_lines.proofs.session.settle.Goals as goal
 
-pub returns-in-Denied : goal.returns-in-Denied
-returns-in-Denied c = rw (c.in-Denied.is, c.begin.ensures)
+pub returns-in-Err : goal.returns-in-Err
+returns-in-Err c = rw (c.in-Err.is, c.begin.ensures)
 
-pub returns-in-Accepted : goal.returns-in-Accepted
-returns-in-Accepted c = rw (c.in-Accepted.is, ← c.requires)
+pub returns-in-Ok : goal.returns-in-Ok
+returns-in-Ok c = rw (c.in-Ok.is, ← c.requires)

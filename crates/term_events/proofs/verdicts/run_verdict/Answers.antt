@@ -7,17 +7,17 @@ use Rattle.term_events.proofs.verdicts.run_verdict.Goals as goal
 pub stamps_verdict-requires : goal.stamps_verdict-requires
 stamps_verdict-requires c =
     let args = c.args in
-    let valid = checked-layer args.t _ args.n args.prices args.stamps.now args.sheet _ (sym c.checked.ensures) c.in-Accepted.is in
+    let valid = checked-layer args.t _ args.n args.prices args.stamps.now args.sheet _ (sym c.checked.ensures) c.in-Ok.is in
     layer-end _ _ _ (sym c.layer_valid-layer.ensures ∙ valid)
 
-pub returns-in-Denied : goal.returns-in-Denied
-returns-in-Denied c =
+pub returns-in-Err : goal.returns-in-Err
+returns-in-Err c =
     let args = c.args in
-    let v = sym c.checked.ensures ∙ c.in-Denied.is in
+    let v = sym c.checked.ensures ∙ c.in-Err.is in
     sym (rw (← c.layer_valid-layer.ensures) (run-checked args.t _ args.n args.prices args.stamps.now args.sheet _ v args.h args.c.last))
 
-pub returns-in-Accepted : goal.returns-in-Accepted
-returns-in-Accepted c =
+pub returns-in-Ok : goal.returns-in-Ok
+returns-in-Ok c =
     let args = c.args in
-    let v = sym c.checked.ensures ∙ c.in-Accepted.is in
+    let v = sym c.checked.ensures ∙ c.in-Ok.is in
     c.stamps_verdict.ensures ∙ sym (rw (← c.layer_valid-layer.ensures) (run-checked args.t _ args.n args.prices args.stamps.now args.sheet _ v args.h args.c.last))

@@ -1,5 +1,5 @@
 -- By the verdict. Assumes nothing.
 use Rattle.terms.proofs.layers.hours_by.Goals as goal
 
-pub returns-in-Accepted : goal.returns-in-Accepted
-returns-in-Accepted c = simp (c.in-Accepted.is, c.with_zeros.ensures)
+pub returns-in-Ok : goal.returns-in-Ok
+returns-in-Ok c = simp (c.in-Ok.is, c.with_zeros.ensures)

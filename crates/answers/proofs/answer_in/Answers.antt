@@ -1,8 +1,0 @@
--- Both answers are those of the definition. Assumes nothing.
-use Rattle.answers.proofs.answer_in.Goals as goal
-
-pub returns-in-Judged : goal.returns-in-Judged
-returns-in-Judged c = simp c.in-Judged.is
-
-pub returns-in-Refused : goal.returns-in-Refused
-returns-in-Refused c = simp c.in-Refused.is
