@@ -1,5 +1,5 @@
 // The call as a host program makes it: numbers, thresholds and bars as bytes, each price's bits little-endian. recognisers_c exports it.
-ghost use Rattle.std.specs.Prelude.{◌≡◌, cond, ◌+◌, ◌*◌, ◌≤◌, ◌<◌, eqb, length, take};
+ghost use Rattle.std.specs.Prelude.{◌≡◌, cond, ◌+◌, ◌*◌, ◌≤◌, ◌<◌, ◌%◌, eqb, length, take};
 ghost use Rattle.std.specs.Float.{binary64};
 ghost use Rattle.std.specs.Float.Ieee.{of_bits};
 ghost use Rattle.measures.specs.Bar.{bars_of};
@@ -7,11 +7,12 @@ ghost use Rattle.measures.specs.Window.{window_of};
 ghost use Rattle.rule_types.specs.Number.{gated, quarter_bars};
 ghost use Rattle.thresholds.specs.Threshold.{thresholds_of};
 ghost use Rattle.rule_table.specs.Table.{pair_at};
+ghost use Rattle.recognisers.specs.Call.{plain_answer};
 ghost use Rattle.recognisers.specs.Export.{price_at, prices_at, decoded_prices, export_of};
 ghost use Rattle.recognisers.specs.ExportSteps.{word_at};
 
 use answers::verdicts::plain_verdict;
-use answers::{Answer, Verdict, answer_number};
+use answers::{Refusal, answer_number};
 use measures::price;
 use rule_table::table;
 use rule_types::counts;
@@ -119,6 +120,15 @@ fn pair_at(k: u32, t: Thresholds, di: u32, s: &[u8]) -> Pair
     table::judge(k, t, len, p, &w[..w_len], &gate[..gate_len])
 }
 
+// The plain call over the bars of the bytes.
+fn recognise_bytes(k: u32, di: u32, t: Thresholds, bars: &[u8]) -> Result<Pair, Refusal>
+    ensures { result ≡ plain_answer k di t (eqb (length bars.now % 32) 0) (bars_of (decoded_prices bars.now)) }
+{
+    let n = bars.len();
+    plain_verdict(k, di, t, n % BAR_BYTES == 0, n / BAR_BYTES)?;
+    Ok(pair_at(k, t, di, bars))
+}
+
 // The plain call over the bars of the bytes, as a number. th13 and th14 count tenths: whoever passes 10 as before gets a tenth of what he means.
 pub fn jcc_label(
     recogniser: u32,
@@ -144,9 +154,5 @@ pub fn jcc_label(
     let t = Thresholds::new(
         th0, z2, th2, z3, th3, zdf5, th6, zdf7, th8, zf8, th10, th13, th14,
     );
-    let n = bars.len();
-    match plain_verdict(recogniser, offset, t, n % BAR_BYTES == 0, n / BAR_BYTES) {
-        Err(why) => answer_number(Err(why)),
-        Ok(()) => { answer_number(Ok(pair_at(recogniser, t, offset, bars))) }
-    }
+    answer_number(recognise_bytes(recogniser, offset, t, bars))
 }

@@ -7,8 +7,7 @@ pub mod call;
 pub mod export;
 
 pub use answers::{
-    Answer, LookAnswer, Refusal, Verdict, answer_in, answer_number, box_verdicts, ordinal_in,
-    refusals, verdicts,
+    Judged, Refusal, answer_in, answer_number, box_verdicts, ordinal_in, refusals, verdicts,
 };
 pub use call::recognise;
 pub use export::jcc_label;
