@@ -1,6 +1,6 @@
 // Why a call is refused.
 ghost use Rattle.std.specs.Prelude.{◌≡◌};
-ghost use Rattle.answers.specs.Refusal.{refusal_number, leaves};
+ghost use Rattle.answers.specs.Refusal.{refusal_number, verdict_number, leaves};
 
 // Why a call is refused, by number. Most calls try theirs in this order; a layer's 12 comes next after 3.
 #[derive(Clone, Copy, Debug, PartialEq, Eq)]
@@ -24,6 +24,16 @@ pub fn refusal_number(r: Refusal) -> u8
     ensures { result ≡ refusal_number r }
 {
     r as u8
+}
+
+// The number of the refusal, 0 if there is none.
+pub fn verdict_number(v: Result<(), Refusal>) -> u8
+    ensures { result ≡ verdict_number v }
+{
+    match v {
+        Ok(()) => 0,
+        Err(why) => refusal_number(why),
+    }
 }
 
 // How many of the lent prices are taken in: all, or none if the feed is refused.
