@@ -21,8 +21,8 @@ use Rattle.bar_box.proofs.SheetLaws.{length-row, rows-one, rows-newest}
 use Rattle.bar_box.proofs.FeedSteps.{accepts, count-after, kept-after, verdict-step, box-step}
 use Rattle.bar_box.proofs.FeedLists.{at-start}
 use Rattle.bar_box.proofs.Demand3.{standard-valid, fresh-none}
-use Rattle.text.specs.declared.line_text.Line.{Line, TheVariants.Prices, TheVariants.BadShape, TheVariants.BadPrice}
-use Rattle.text.specs.LineText.{line_of}
+use Rattle.text.specs.declared.line_text.LineError.TheVariants.{BadShape, BadPrice}
+use Rattle.text.specs.LineText.{Line, line_of}
 use Rattle.input_lines.specs.Lines.{lines_of}
 use Rattle.output_lines.specs.declared.output.Stop.TheVariants.{By, Price}
 use Rattle.output_lines.specs.Output.{refusal_line}
@@ -102,9 +102,9 @@ module _ (lines : List (List ℕ)) (on : (h : List Bar) → length h ≤ most_ba
   one_line : (h : List Bar) (l : Line) → length h ≤ most_bars
       → (read_step (box_of h) l).printed ++ cond (read_step (box_of h) l).stops [] (printed_of (read_step (box_of h) l).after lines) ≡ history_prints h (l ∷ map line_of lines)
   unfolding lines_print
-  one_line h (Prices bar) few = bar-line h bar (ltb (length h) most_bars) refl few
-  one_line h BadShape few = rw (count-after fresh start h) (append-nil (refusal_line (length h + 1) (Some (By refusal.BadShape))))
-  one_line h (BadPrice place) few = rw (count-after fresh start h) (append-nil (refusal_line (length h + 1) (Some (Price place))))
+  one_line h (Ok bar) few = bar-line h bar (ltb (length h) most_bars) refl few
+  one_line h (Err BadShape) few = rw (count-after fresh start h) (append-nil (refusal_line (length h + 1) (Some (By refusal.BadShape))))
+  one_line h (Err (BadPrice place)) few = rw (count-after fresh start h) (append-nil (refusal_line (length h + 1) (Some (Price place))))
 
 after-history : (h : List Bar) (lines : List (List ℕ)) → length h ≤ most_bars → printed_of (box_of h) lines ≡ history_prints h (map line_of lines)
 unfolding printed_of line_step lines_print

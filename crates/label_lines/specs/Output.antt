@@ -8,8 +8,8 @@ use Rattle.recognisers.specs.Number.{row_bytes}
 use Rattle.recognisers.specs.Threshold.{standard_set}
 use Rattle.box_record.specs.declared.boxes.BarBox.{BarBox}
 use Rattle.bar_box.specs.Box.{fresh_box, fed_of, sheet_of}
-use Rattle.text.specs.declared.line_text.Line.{Line, TheVariants.Prices, TheVariants.BadShape, TheVariants.BadPrice}
-use Rattle.text.specs.LineText.{line_of}
+use Rattle.text.specs.declared.line_text.LineError.TheVariants.{BadShape, BadPrice}
+use Rattle.text.specs.LineText.{Line, line_of}
 use Rattle.input_lines.specs.Lines.{lines_of}
 use Rattle.output_lines.specs.declared.output.Stop.{Stop, TheVariants.By, TheVariants.Price}
 use Rattle.output_lines.specs.Output.{row_lines, refusal_line}
@@ -38,9 +38,9 @@ fed_step b bar =
 
 -- a line is read as text first, then fed as one bar
 abbrev pub read_step : BarBox → Line → Step
-read_step b (Prices bar) = fed_step b bar
-read_step b BadShape = refused_step b (By refusal.BadShape)
-read_step b (BadPrice place) = refused_step b (Price place)
+read_step b (Ok bar) = fed_step b bar
+read_step b (Err BadShape) = refused_step b (By refusal.BadShape)
+read_step b (Err (BadPrice place)) = refused_step b (Price place)
 
 unfoldable pub line_step : BarBox → List ℕ → Step
 line_step b line = read_step b (line_of line)

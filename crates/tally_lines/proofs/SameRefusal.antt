@@ -1,6 +1,6 @@
 -- Of every input this program prints the table of its bars, or the last line that the labels program prints, a refusal line: both print
 -- by the same lines after the same history. Assumes nothing.
-use Rattle.std.specs.Prelude.{Option, Some, None}
+use Rattle.std.specs.Prelude.{Option, Some, None, Ok, Err}
 use Prim.Native.Nat.{ℕ, zero, suc, ◌+◌, ◌/◌, ◌%◌, ◌≤◌}
 use mathlib.Core.Bool.{Bool, true, false, cond}
 use mathlib.Core.List.{List, [], ◌∷◌, ◌++◌, map, append_assoc, append-nil}
@@ -17,10 +17,10 @@ use Rattle.answers.specs.declared.refusals.Refusal.{Refusal}
 use Rattle.answers.specs.declared.refusals.Refusal.TheVariants as refusal
 use Rattle.recognisers.specs.Refusal.{refusal_number}
 use Rattle.recognisers.specs.Number.{most_bars}
-use Rattle.text.specs.declared.line_text.Line.{Line, TheVariants.Prices, TheVariants.BadShape, TheVariants.BadPrice}
+use Rattle.text.specs.declared.line_text.LineError.TheVariants.{BadShape, BadPrice}
 use Rattle.label_texts.specs.LabelText.{bytes_of}
 use Rattle.input_lines.specs.Lines.{comma}
-use Rattle.text.specs.LineText.{line_of}
+use Rattle.text.specs.LineText.{Line, line_of}
 use Rattle.input_lines.specs.Lines.{line_feed, lines_from, lines_of}
 use Rattle.input_lines.proofs.LineLaws.{lines_end, lines-feed, lines-byte}
 use Rattle.output_lines.specs.declared.output.Stop.{Stop, TheVariants.By, TheVariants.Price}
@@ -107,12 +107,12 @@ alone ordinal stop e = record { ordinal = ordinal; stop = stop; refused = e; pri
 same : (h : List Bar) (lines : List Line) → length h ≤ most_bars → Tabled h lines (tally_prints h lines) ⊎ Refused (history_prints h lines) (tally_prints h lines)
 unfolding lines_print
 same h [] few = inl (record { bars = []; accepted = refl; few = rw append-nil few; prints = rw append-nil })
-same h (BadShape ∷ lines) few = inr (alone (length h + 1) (Some (By refusal.BadShape)) refl)
+same h ((Err BadShape) ∷ lines) few = inr (alone (length h + 1) (Some (By refusal.BadShape)) refl)
 same h (BadPrice place ∷ lines) few = inr (alone (length h + 1) (Some (Price place)) refl)
-same h (Prices bar ∷ lines) few = go (ltb (length h) most_bars) refl (λ room. same (h ++ (bar ∷ [])) lines (rw (length-append h (bar ∷ [])) (omega (arith, ltb-true (length h) most_bars room))))
+same h (Ok bar ∷ lines) few = go (ltb (length h) most_bars) refl (λ room. same (h ++ (bar ∷ [])) lines (rw (length-append h (bar ∷ [])) (omega (arith, ltb-true (length h) most_bars room))))
   where
     behind : {tally printed : List ℕ} → Tabled (h ++ (bar ∷ [])) lines tally ⊎ Refused printed tally
-        → Tabled h (Prices bar ∷ lines) tally ⊎ Refused (newest_lines (h ++ (bar ∷ [])) ++ printed) tally
+        → Tabled h (Ok bar ∷ lines) tally ⊎ Refused (newest_lines (h ++ (bar ∷ [])) ++ printed) tally
     behind (inl t) = inl (record { bars = bar ∷ t.bars; accepted = rw t.accepted; few = rw append_assoc at t.few; prints = rw append_assoc at t.prints })
     behind (inr r) =
         inr (record {
@@ -130,7 +130,7 @@ same h (Prices bar ∷ lines) few = go (ltb (length h) most_bars) refl (λ room.
         (ltb (length h) most_bars ≡ true → Tabled more lines (tally_prints more lines) ⊎ Refused (history_prints more lines) (tally_prints more lines))
         → let past = refusal_line (length h + 1) (Some (By refusal.TooManyBars)) in
         let tally = cond t (tally_prints more lines) past in
-        Tabled h (Prices bar ∷ lines) tally ⊎ Refused (cond t (newest_lines more ++ history_prints more lines) past) tally
+        Tabled h (Ok bar ∷ lines) tally ⊎ Refused (cond t (newest_lines more ++ history_prints more lines) past) tally
     go true room rest = behind (rest room)
     go false full rest = inr (alone (length h + 1) (Some (By refusal.TooManyBars)) refl)
 

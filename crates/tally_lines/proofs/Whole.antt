@@ -15,8 +15,8 @@ use Rattle.answers.specs.declared.refusals.Refusal.TheVariants as refusal
 use Rattle.recognisers.specs.Number.{most_bars}
 use Rattle.recognisers.specs.Refusal.{leaves}
 use Rattle.tallies.specs.Tally.{fresh_tally}
-use Rattle.text.specs.declared.line_text.Line.{Line, TheVariants.Prices, TheVariants.BadShape, TheVariants.BadPrice}
-use Rattle.text.specs.LineText.{line_of}
+use Rattle.text.specs.declared.line_text.LineError.TheVariants.{BadShape, BadPrice}
+use Rattle.text.specs.LineText.{Line, line_of}
 use Rattle.input_lines.specs.Lines.{line_feed, lines_from, kept_line}
 use Rattle.input_lines.proofs.LineLaws.{lines_end, lines-last, lines-feed, lines-byte}
 use Rattle.output_lines.specs.Output.{refusal_line}
@@ -51,9 +51,9 @@ module _ (rest : List ℕ) (on : (h : List Bar) → length h ≤ most_bars → e
   one_line : (h : List Bar) (l : Line) → length h ≤ most_bars
       → end_prints (after h (after_line l [] (λ more. read_from more [] rest))) ≡ tally_prints h (l ∷ map line_of (lines_from [] rest))
   unfolding lines_print fed_all closed
-  one_line h (Prices bar) few = bar-line h bar (ltb (length h) most_bars) refl few
-  one_line h BadShape few = rw (box-count h)
-  one_line h (BadPrice place) few = rw (box-count h)
+  one_line h (Ok bar) few = bar-line h bar (ltb (length h) most_bars) refl few
+  one_line h (Err BadShape) few = rw (box-count h)
+  one_line h (Err (BadPrice place)) few = rw (box-count h)
 
 -- ---- the input's end
 

@@ -15,8 +15,8 @@ use Rattle.tallies.specs.declared.table.TallyRow.{TallyRow}
 use Rattle.tallies.specs.declared.feeds.Tallied.{Tallied}
 use Rattle.tallies.specs.Tally.{fresh_tally}
 use Rattle.tallies.specs.Feed.{lent, tallied_of}
-use Rattle.text.specs.declared.line_text.Line.{Line, TheVariants.Prices, TheVariants.BadShape, TheVariants.BadPrice}
-use Rattle.text.specs.LineText.{line_of}
+use Rattle.text.specs.declared.line_text.LineError.TheVariants.{BadShape, BadPrice}
+use Rattle.text.specs.LineText.{Line, line_of}
 use Rattle.input_lines.specs.Lines.{line_feed, kept_line, content, partial_of}
 use Rattle.output_lines.specs.declared.output.Stop.{Stop, TheVariants.By, TheVariants.Price}
 use Rattle.output_lines.specs.Output.{goes_on, refusal_line}
@@ -33,14 +33,14 @@ pub record Read : Type 0 where
 
 -- a line's bar, and its refusal
 abbrev pub line_bars : Line → List Bar
-line_bars (Prices bar) = bar ∷ []
-line_bars BadShape = []
-line_bars (BadPrice place) = []
+line_bars (Ok bar) = bar ∷ []
+line_bars (Err BadShape) = []
+line_bars (Err (BadPrice place)) = []
 
 abbrev pub line_stop : Line → Option Stop
-line_stop (Prices bar) = None
-line_stop BadShape = Some (By refusal.BadShape)
-line_stop (BadPrice place) = Some (Price place)
+line_stop (Ok bar) = None
+line_stop (Err BadShape) = Some (By refusal.BadShape)
+line_stop (Err (BadPrice place)) = Some (Price place)
 
 -- the end of a line behind these bars: its bar follows them, and reading goes on; a line that is no bar is refused, and it doesn't
 abbrev pub after_line : Line → List Bar → (List Bar → Read) → Read
