@@ -6,7 +6,7 @@ use crate::price;
 
 // A host program lends bars in this layout.
 #[repr(C)]
-#[derive(Clone, Copy)]
+#[derive(Clone, Copy, Debug, PartialEq)]
 pub struct Bar {
     pub open: f64,
     pub close: f64,

@@ -11,7 +11,7 @@ pub fn pick<T: Copy>(c: bool, x: T, y: T) -> T
     if c { x } else { y }
 }
 
-// The values that no literal has.
+// The values that no literal has, as functions since a constant carries no contract.
 pub fn plus_infinity() -> f64
     ensures { result ≡ inf false }
 {
