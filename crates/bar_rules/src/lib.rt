@@ -1,6 +1,7 @@
 // The recognisers of three to six newest bars: 5, 11, 12 and 16. b1 is the judged bar, b2 the one before.
 // All is proved, nothing is assumed, and no public function has a `requires`: each contract is an equation with a definition of specs/,
 // for every input.
+// Bars come one by one, newest first, as the definitions name them: an array of them would put numbers in place of names.
 #![tactic(auto)]
 
 ghost use Rattle.std.specs.Prelude.{◌≡◌, cond, ◌&&◌};
@@ -10,17 +11,19 @@ ghost use Rattle.bar_rules.specs.BarRule.{change_of, san_fa_v20221115, two_crow,
 
 use measures::Bar;
 use rule_types::counts::GATE_ABOVE;
-use rule_types::label::{Label, Pair, pair_a, pick, pick_pair};
+use rule_types::label::{Label, Pair, pair_a, pick};
 
 // 5: san_fa_v20221115
 
 // The change of close from one bar to the next, in ten thousandths.
+#[tactic(auto, unfolding(crate::specs::BarRule::change_of))]
 fn change(older: Bar, newer: Bar) -> f64
     ensures { result ≡ change_of older newer }
 {
     measures::abs((older.close - newer.close) / older.close) * 10000.0
 }
 
+#[tactic(auto, unfolding(crate::specs::BarRule::san_fa_v20221115))]
 pub fn san_fa_v20221115(zdf: u32, b1: Bar, b2: Bar, b3: Bar, b4: Bar, b5: Bar, b6: Bar) -> Pair
     ensures { result ≡ san_fa_v20221115 zdf b1 b2 b3 b4 b5 b6 }
 {
@@ -49,6 +52,7 @@ pub fn san_fa_v20221115(zdf: u32, b1: Bar, b2: Bar, b3: Bar, b4: Bar, b5: Bar, b
 
 // 11: two_crow
 
+#[tactic(auto, unfolding(crate::specs::BarRule::two_crow))]
 pub fn two_crow(b1: Bar, b2: Bar, b3: Bar) -> Pair
     ensures { result ≡ two_crow b1 b2 b3 }
 {
@@ -64,6 +68,7 @@ pub fn two_crow(b1: Bar, b2: Bar, b3: Bar) -> Pair
 // 12: three_crow
 
 // The gate: len is above 23, and b3 stays below the high quarter of the 20 bars that end third from the newest.
+#[tactic(auto, unfolding(crate::specs::BarRule::gate_shut))]
 fn is_gate_shut(len: usize, gate: &[f64], b3: Bar) -> bool
     ensures { result ≡ gate_shut len (bars_of gate.now) b3 }
 {
@@ -95,13 +100,14 @@ fn opens_within(newer: Bar, older: Bar) -> bool
     (older.close <= newer.open) & (newer.open <= older.open)
 }
 
+#[tactic(auto, unfolding(crate::specs::BarRule::crow_pair))]
 fn crow_pair(b1: Bar, b2: Bar, b3: Bar) -> Pair
     ensures { result ≡ crow_pair b1 b2 b3 }
 {
     let newer = opens_within(b1, b2);
     let older = opens_within(b2, b3);
     let gap = b1.open < b2.close;
-    let half = pick_pair(
+    let half = pick(
         (newer & (b3.open < b3.close)) | (older & gap),
         Pair {
             v1: Label::Met,
@@ -109,7 +115,7 @@ fn crow_pair(b1: Bar, b2: Bar, b3: Bar) -> Pair
         },
         pair_a(),
     );
-    let strong = pick_pair(
+    let strong = pick(
         gap & (b2.open < b3.close),
         Pair {
             v1: Label::Met,
@@ -117,7 +123,7 @@ fn crow_pair(b1: Bar, b2: Bar, b3: Bar) -> Pair
         },
         half,
     );
-    pick_pair(
+    pick(
         newer & older,
         Pair {
             v1: Label::Met,
@@ -134,17 +140,12 @@ fn have_short_shadows(b1: Bar, b2: Bar, b3: Bar) -> bool
 }
 
 // The shape is tried before the gate, which costs a loop, and its first part before the shadows.
+#[tactic(auto, unfolding(crate::specs::BarRule::three_crow))]
 pub fn three_crow(len: usize, gate: &[f64], b1: Bar, b2: Bar, b3: Bar) -> Pair
     ensures { result ≡ cond (gate_shut len (bars_of gate.now) b3) pair_a (three_crow b1 b2 b3) }
 {
-    let falling = are_falling(b1, b2, b3);
-    if falling {
-        let short = have_short_shadows(b1, b2, b3);
-        if short {
-            pick_pair(is_gate_shut(len, gate, b3), pair_a(), crow_pair(b1, b2, b3))
-        } else {
-            pair_a()
-        }
+    if are_falling(b1, b2, b3) && have_short_shadows(b1, b2, b3) {
+        pick(is_gate_shut(len, gate, b3), pair_a(), crow_pair(b1, b2, b3))
     } else {
         pair_a()
     }
@@ -156,13 +157,11 @@ pub fn three_crow(len: usize, gate: &[f64], b1: Bar, b2: Bar, b3: Bar) -> Pair
 fn is_alike(gap: bool, b1: Bar, b2: Bar) -> bool
     ensures { result ≡ (gap && alike_of b1 b2) }
 {
-    if gap {
-        measures::pair_variance(measures::body(b1), measures::body(b2)) < 0.2
-    } else {
-        false
-    }
+    gap && measures::pair_variance(measures::body(b1), measures::body(b2)) < 0.2
 }
 
+#[tactic(auto, unfolding(crate::specs::BarRule::gap_up_of))]
+// The two are mirrors, with each comparison turned round and min for max: one function of both, told which, would be no plainer.
 fn is_gap_up(b1: Bar, b2: Bar, b3: Bar) -> bool
     ensures { result ≡ gap_up_of b1 b2 b3 }
 {
@@ -172,6 +171,7 @@ fn is_gap_up(b1: Bar, b2: Bar, b3: Bar) -> bool
     is_alike(gap, b1, b2)
 }
 
+#[tactic(auto, unfolding(crate::specs::BarRule::gap_down_of))]
 fn is_gap_down(b1: Bar, b2: Bar, b3: Bar) -> bool
     ensures { result ≡ gap_down_of b1 b2 b3 }
 {
@@ -181,6 +181,7 @@ fn is_gap_down(b1: Bar, b2: Bar, b3: Bar) -> bool
     is_alike(gap, b1, b2)
 }
 
+#[tactic(auto, unfolding(crate::specs::BarRule::gap_yin_yang))]
 pub fn gap_yin_yang(b1: Bar, b2: Bar, b3: Bar) -> Pair
     ensures { result ≡ gap_yin_yang b1 b2 b3 }
 {

@@ -13,7 +13,8 @@ use lib.Ieee.Fits.{up_pos, down_pos}
 use Rattle.prices.specs.declared.bars.Bar.{Bar}
 use Rattle.prices.specs.Price.{zero as zeroPrice, abs_of}
 use Rattle.prices.specs.Bar.{body_of}
-use Rattle.prices.proofs.Order.{lt-nan}
+use Rattle.std.proofs.lemmas.Float.{eq_flip, T_from_true}
+use Rattle.prices.proofs.Order.{lt-nan, holds}
 
 -- zero of either sign, or NaN
 abbrev Nil : Float → Type 0
@@ -95,30 +96,8 @@ div-nil (fin s m e) (fin t n d) h g = simp (eq-eqb n 0 g, eq-eqb m 0 h)
 
 -- ---- equals, either way round
 
-none-swaps : (a b : ℕ) → (eqb a b && eqb a 0) ≡ true → (eqb b a && eqb b 0) ≡ true
-none-swaps a b h =
-    let both = (and-eq-true_iff (eqb a b) (eqb a 0)).0 h in
-    let e : a ≡ b = eqb-true a b both.0 in
-    simp (eq-eqb b a (sym e), eq-eqb b 0 (sym e ∙ eqb-true a 0 both.1))
-
-level-swaps : (s : Bool) (a : ℕ) (t : Bool) (b : ℕ) → level s a t b ≡ true → level t b s a ≡ true
-level-swaps true a true b h = simp (eq-eqb b a (sym (eqb-true a b ((and-eq-true_iff (eqb a b) true).0 h).0)))
-level-swaps false a false b h = simp (eq-eqb b a (sym (eqb-true a b ((and-eq-true_iff (eqb a b) true).0 h).0)))
-level-swaps true a false b h = none-swaps a b h
-level-swaps false a true b h = none-swaps a b h
-
 eq-swaps : (x y : Float) → eq x y ≡ true → eq y x ≡ true
-unfolding eq
-eq-swaps nan y h = absurd (false≢true h)
-eq-swaps (inf s) nan h = absurd (false≢true h)
-eq-swaps (inf true) (inf true) h = refl
-eq-swaps (inf true) (inf false) h = absurd (false≢true h)
-eq-swaps (inf false) (inf true) h = absurd (false≢true h)
-eq-swaps (inf false) (inf false) h = refl
-eq-swaps (inf s) (fin t n d) h = absurd (false≢true h)
-eq-swaps (fin s m e) nan h = absurd (false≢true h)
-eq-swaps (fin s m e) (inf t) h = absurd (false≢true h)
-eq-swaps (fin s m e) (fin t n d) h = level-swaps s (m * up e * down d) t (n * up d * down e) h
+eq-swaps x y h = holds (eq y x) (eq_flip x y (T_from_true (eq x y) h))
 
 pub flat : (th : Float) (b : Bar) → eq b.close b.«open» ≡ true → eq b.high b.low ≡ true
     → lt th (div binary64 (sub binary64 b.high b.low) (body_of b)) ≡ false

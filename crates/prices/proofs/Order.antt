@@ -1,48 +1,28 @@
--- The order of floats, and the laws of max and min that follow: both keep the first of the greatest (smallest) values that are no NaN.
--- Assumes nothing.
-use Prim.Native.Nat.{ℕ, ◌+◌, ◌*◌, ◌<◌}
+-- The order of floats in Booleans, and the laws of max and min that follow: both keep the first of the greatest (smallest) values that are
+-- no NaN. Assumes nothing.
 use mathlib.Core.Path.{◌≡◌, refl, sym, ap, subst, ◌∙◌}
-use mathlib.Core.Bool.{Bool, true, false, cond, not, ◌&&◌, ◌||◌, true≢false, false≢true, and-true, and-false}
-use native.Mathlib.Nat.{add_comm, add-mul, zero-mul, mul_right_comm, mul-le-mul_right, mul-lt-mul_of_pos_right}
-use native.Mathlib.Omega.{arith}
-use borrow.Author.Tests.{ltb-true, ltb-false, lt-ltb, le-ltb, eqb-true, eqb-false, eq-eqb, ne_eqb}
-use lib.Dec.{ltb, eqb}
-use lib.Ieee.{Float, nan, inf, fin, up, down, below, level, lt, eq, le, is_nan}
-use lib.Ieee.Fits.{down_pos}
+use mathlib.Core.Bool.{Bool, true, false, cond, not, ◌&&◌, ◌||◌, true≢false, false≢true}
+use lib.Dec.{T}
+use lib.Ieee.{Float, nan, inf, fin, lt, le, is_nan}
+use Rattle.std.proofs.lemmas.Float.{lt_irrefl, lt_trans, le_of_lt, le_left, le_right, le_of_not-lt, lt_of_lt_of_le, lt_of_le_of_lt, T_from_true, T_from_false}
 use Rattle.prices.specs.Price.{max_of, min_of}
 
--- ---- signed numbers over one denominator
-
-scale : (a b k : ℕ) → 0 < k → ltb (a * k) (b * k) ≡ ltb a b
-scale a b k h = go (ltb a b) refl
-  where
-    go : (t : Bool) → ltb a b ≡ t → ltb (a * k) (b * k) ≡ t
-    go true e = lt-ltb (a * k) (b * k) (mul-lt-mul_of_pos_right (ltb-true a b e) h)
-    go false e = le-ltb (a * k) (b * k) (mul-le-mul_right k (ltb-false a b e))
-
-below-scale : (s : Bool) (a : ℕ) (t : Bool) (b k : ℕ) → 0 < k → below s (a * k) t (b * k) ≡ below s a t b
-below-scale false a false b k h = scale a b k h
-below-scale false a true b k h = refl
-below-scale true a false b k h = rw (← add-mul) (rw zero-mul at (scale 0 (a + b) k h))
-below-scale true a true b k h = scale b a k h
-
--- what is below a third is below, or has below it, any second
-below_split : (s : Bool) (a : ℕ) (t : Bool) (b : ℕ) (u : Bool) (c : ℕ) → below s a u c ≡ true → below s a t b ≡ false → below t b u c ≡ true
-below_split false a false b false c h g = lt-ltb b c (omega (arith, ltb-true a c h, ltb-false a b g))
-below_split false a t b true c h g = absurd (false≢true h)
-below_split false a true b false c h g = lt-ltb 0 (b + c) (omega (arith, ltb-true a c h))
-below_split true a false b false c h g = lt-ltb b c (omega (arith, ltb-true 0 (a + c) h, ltb-false 0 (a + b) g))
-below_split true a false b true c h g = absurd (let z : ⊥ = omega (arith, ltb-true c a h, ltb-false 0 (a + b) g) in z)
-below_split true a true b false c h g = lt-ltb 0 (b + c) (omega (arith, ltb-true 0 (a + c) h, ltb-false b a g))
-below_split true a true b true c h g = lt-ltb c b (omega (arith, ltb-true c a h, ltb-false b a g))
-
-below-asym : (s : Bool) (a : ℕ) (t : Bool) (b : ℕ) → below s a t b ≡ true → below t b s a ≡ false
-below-asym false a false b h = le-ltb b a (omega (arith, ltb-true a b h))
-below-asym false a true b h = absurd (false≢true h)
-below-asym true a false b h = refl
-below-asym true a true b h = le-ltb a b (omega (arith, ltb-true b a h))
-
 -- ---- floats
+
+pub holds : (t : Bool) → T t → t ≡ true
+holds true h = refl
+holds false h = absurd h
+
+fails : (t : Bool) → ¬ T t → t ≡ false
+fails true h = absurd (h tt)
+fails false h = refl
+
+no_nan : (x : Float) → T (not (is_nan x)) → is_nan x ≡ false
+no_nan x = go (is_nan x)
+  where
+    go : (t : Bool) → T (not t) → t ≡ false
+    go true h = absurd h
+    go false h = refl
 
 pub lt-nan : (x : Float) → lt x nan ≡ false
 unfolding lt
@@ -51,122 +31,38 @@ lt-nan (inf s) = refl
 lt-nan (fin s m e) = refl
 
 pub lt-asym : (x y : Float) → lt x y ≡ true → lt y x ≡ false
-unfolding lt
-lt-asym nan y h = absurd (false≢true h)
-lt-asym (inf s) nan h = refl
-lt-asym (inf false) (inf t) h = absurd (false≢true h)
-lt-asym (inf true) (inf false) h = refl
-lt-asym (inf true) (inf true) h = refl
-lt-asym (inf true) (fin t n d) h = refl
-lt-asym (inf false) (fin t n d) h = absurd (false≢true h)
-lt-asym (fin s m e) nan h = refl
-lt-asym (fin s m e) (inf true) h = absurd (false≢true h)
-lt-asym (fin s m e) (inf false) h = refl
-lt-asym (fin s m e) (fin t n d) h = below-asym s (m * up e * down d) t (n * up d * down e) h
-
--- three numbers over the product of their denominators
-split-over : (s : Bool) (m e : ℕ) (t : Bool) (n d : ℕ) (u : Bool) (l f : ℕ) → 0 < e → 0 < d → 0 < f
-    → below s (m * f) u (l * e) ≡ true → below s (m * d) t (n * e) ≡ false → below t (n * f) u (l * d) ≡ true
-split-over s m e t n d u l f E D F h g =
-    let h' : below s (m * d * f) u (l * d * e) ≡ true = rw (mul_right_comm m d f, mul_right_comm l d e) (below-scale s (m * f) u (l * e) d D ∙ h) in
-    let g' : below s (m * d * f) t (n * f * e) ≡ false = rw (mul_right_comm n f e) (below-scale s (m * d) t (n * e) f F ∙ g) in
-    sym (below-scale t (n * f) u (l * d) e E) ∙ below_split s (m * d * f) t (n * f * e) u (l * d * e) h' g'
+lt-asym x y h = fails (lt y x) (λ g. lt_irrefl x (lt_trans x y x (T_from_true (lt x y) h) g))
 
 -- of x below z and a y that is no NaN: x is below y, or y below z
 pub lt-split : (x y z : Float) → is_nan y ≡ false → lt x z ≡ true → lt x y ≡ false → lt y z ≡ true
-unfolding lt is_nan
-lt-split nan y z k h g = absurd (false≢true h)
-lt-split (inf false) y nan k h g = absurd (false≢true h)
-lt-split (inf false) y (inf u) k h g = absurd (false≢true h)
-lt-split (inf false) y (fin u l f) k h g = absurd (false≢true h)
-lt-split (inf true) nan z k h g = absurd (true≢false k)
-lt-split (inf true) (inf true) nan k h g = absurd (false≢true h)
-lt-split (inf true) (inf true) (inf u) k h g = h
-lt-split (inf true) (inf true) (fin u l f) k h g = refl
-lt-split (inf true) (inf false) z k h g = absurd (true≢false g)
-lt-split (inf true) (fin t n d) z k h g = absurd (true≢false g)
-lt-split (fin s m e) nan z k h g = absurd (true≢false k)
-lt-split (fin s m e) (inf false) z k h g = absurd (true≢false g)
-lt-split (fin s m e) (inf true) nan k h g = absurd (false≢true h)
-lt-split (fin s m e) (inf true) (inf true) k h g = absurd (false≢true h)
-lt-split (fin s m e) (inf true) (inf false) k h g = refl
-lt-split (fin s m e) (inf true) (fin u l f) k h g = refl
-lt-split (fin s m e) (fin t n d) nan k h g = absurd (false≢true h)
-lt-split (fin s m e) (fin t n d) (inf true) k h g = absurd (false≢true h)
-lt-split (fin s m e) (fin t n d) (inf false) k h g = refl
-lt-split (fin s m e) (fin t n d) (fin u l f) k h g =
-    split-over s (m * up e) (down e) t (n * up d) (down d) u (l * up f) (down f) (down_pos e) (down_pos d) (down_pos f) h g
+lt-split x y z k h g =
+    let below : T (lt x z) = T_from_true (lt x z) h in
+    let reached = le_of_not-lt x y (le_left x z (le_of_lt x z below)) (T_from_false (is_nan y) k) (T_from_false (lt x y) g) in
+    holds (lt y z) (lt_of_le_of_lt y x z reached below)
 
 -- a value that is below or above another is no NaN
 pub known-left : (x y : Float) → lt x y ≡ true → is_nan x ≡ false
-unfolding lt is_nan
-known-left nan y h = absurd (false≢true h)
-known-left (inf s) y h = refl
-known-left (fin s m e) y h = refl
+known-left x y h = no_nan x (le_left x y (le_of_lt x y (T_from_true (lt x y) h)))
 
 pub known-right : (x y : Float) → lt x y ≡ true → is_nan y ≡ false
-unfolding is_nan
-known-right x nan h = absurd (false≢true (sym (lt-nan x) ∙ h))
-known-right x (inf s) h = refl
-known-right x (fin s m e) h = refl
+known-right x y h = no_nan y (le_right x y (le_of_lt x y (T_from_true (lt x y) h)))
 
--- ---- a price reaches a known one if it is no NaN and the known one is not beyond it, so that one comparison tells
-
-ltb-or-eqb : (a b : ℕ) → (ltb a b || eqb a b) ≡ not (ltb b a)
-ltb-or-eqb a b = go (ltb a b) refl (ltb b a) refl
-  where
-    go : (t : Bool) → ltb a b ≡ t → (u : Bool) → ltb b a ≡ u → (t || eqb a b) ≡ not u
-    go true e true f = absurd (let z : ⊥ = omega (arith, ltb-true a b e, ltb-true b a f) in z)
-    go true e false f = refl
-    go false e true f = ne_eqb a b (λ g. omega (arith, ltb-true b a f, g))
-    go false e false f = eq-eqb a b (omega (arith, ltb-false a b e, ltb-false b a f))
-
-eqb_comm : (a b : ℕ) → eqb a b ≡ eqb b a
-eqb_comm a b = go (eqb a b) refl
-  where
-    go : (t : Bool) → eqb a b ≡ t → t ≡ eqb b a
-    go true e = sym (eq-eqb b a (sym (eqb-true a b e)))
-    go false e = sym (ne_eqb b a (λ h. eqb-false a b e (sym h)))
-
-both_zero : (a b : ℕ) → (eqb a b && eqb a 0) ≡ not (ltb 0 (a + b))
-both_zero a b = go (ltb 0 (a + b)) refl (eqb a 0) refl
-  where
-    go : (t : Bool) → ltb 0 (a + b) ≡ t → (u : Bool) → eqb a 0 ≡ u → (eqb a b && u) ≡ not t
-    go true e true f = rw (ne_eqb a b (λ g. omega (arith, ltb-true 0 (a + b) e, eqb-true a 0 f, g)))
-    go true e false f = and-false (eqb a b)
-    go false e true f = rw (eq-eqb a b (omega (arith, ltb-false 0 (a + b) e)))
-    go false e false f = absurd (eqb-false a 0 f (omega (arith, ltb-false 0 (a + b) e)))
-
-below-or-level : (s : Bool) (a : ℕ) (t : Bool) (b : ℕ) → (below s a t b || level s a t b) ≡ not (below t b s a)
-below-or-level false a false b = rw and-true (ltb-or-eqb a b)
-below-or-level false a true b = rw (add_comm b a) (both_zero a b)
-below-or-level true a false b = rw (both_zero a b) (or-not (ltb 0 (a + b)))
-  where
-    or-not : (t : Bool) → (t || not t) ≡ true
-    or-not true = refl
-    or-not false = refl
-below-or-level true a true b = rw (and-true, eqb_comm a b) (ltb-or-eqb b a)
-
+-- a price reaches a known one if it is no NaN and the known one is not beyond it, so that one comparison tells
 pub reaches-up : (r x : Float) → is_nan r ≡ false → le r x ≡ (not (is_nan x) && not (lt x r))
-unfolding le lt eq is_nan
-reaches-up nan x k = absurd (true≢false k)
-reaches-up (inf s) nan k = refl
-reaches-up (inf true) (inf true) k = refl
-reaches-up (inf true) (inf false) k = refl
-reaches-up (inf false) (inf true) k = refl
-reaches-up (inf false) (inf false) k = refl
-reaches-up (inf true) (fin t n d) k = refl
-reaches-up (inf false) (fin t n d) k = refl
-reaches-up (fin s m e) nan k = refl
-reaches-up (fin s m e) (inf true) k = refl
-reaches-up (fin s m e) (inf false) k = refl
-reaches-up (fin s m e) (fin t n d) k = below-or-level s (m * up e * down d) t (n * up d * down e)
+reaches-up r x k = go (is_nan x) refl (lt x r) refl
+  where
+    go : (t : Bool) → is_nan x ≡ t → (u : Bool) → lt x r ≡ u → le r x ≡ (not t && not u)
+    go true h u g = fails (le r x) (λ e. true≢false (sym h ∙ no_nan x (le_right r x e)))
+    go false h true g = fails (le r x) (λ e. lt_irrefl x (lt_of_lt_of_le x r x (T_from_true (lt x r) g) e))
+    go false h false g = holds (le r x) (le_of_not-lt x r (T_from_false (is_nan x) h) (T_from_false (is_nan r) k) (T_from_false (lt x r) g))
 
 pub reaches-down : (r x : Float) → is_nan r ≡ false → le x r ≡ (not (is_nan x) && not (lt r x))
-unfolding le lt eq is_nan
-reaches-down r nan k = refl
-reaches-down r (inf s) k = reaches-up (inf s) r refl ∙ rw k
-reaches-down r (fin s m e) k = reaches-up (fin s m e) r refl ∙ rw k
+reaches-down r x k = go (is_nan x) refl (lt r x) refl
+  where
+    go : (t : Bool) → is_nan x ≡ t → (u : Bool) → lt r x ≡ u → le x r ≡ (not t && not u)
+    go true h u g = fails (le x r) (λ e. true≢false (sym h ∙ no_nan x (le_left x r e)))
+    go false h true g = fails (le x r) (λ e. lt_irrefl x (lt_of_le_of_lt x r x e (T_from_true (lt r x) g)))
+    go false h false g = holds (le x r) (le_of_not-lt r x (T_from_false (is_nan r) k) (T_from_false (is_nan x) h) (T_from_false (lt r x) g))
 
 no-two : (t : Bool) → t ≡ true → t ≡ false → ⊥
 no-two t h g = true≢false (sym h ∙ g)

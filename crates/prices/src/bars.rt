@@ -6,7 +6,7 @@ use crate::price;
 
 // A host program lends bars in this layout.
 #[repr(C)]
-#[derive(Clone, Copy)]
+#[derive(Clone, Copy, Debug, PartialEq)]
 pub struct Bar {
     pub open: f64,
     pub close: f64,
@@ -14,6 +14,7 @@ pub struct Bar {
     pub low: f64,
 }
 
+#[tactic(auto, unfolding(crate::specs::Bar::body_of))]
 pub fn body(b: Bar) -> f64
     ensures { result ≡ body_of b }
 {
@@ -21,6 +22,7 @@ pub fn body(b: Bar) -> f64
 }
 
 // The upper shadow.
+#[tactic(auto, unfolding(crate::specs::Bar::upper_of))]
 pub fn upper(b: Bar) -> f64
     ensures { result ≡ upper_of b }
 {
@@ -28,6 +30,7 @@ pub fn upper(b: Bar) -> f64
 }
 
 // The lower shadow.
+#[tactic(auto, unfolding(crate::specs::Bar::lower_of))]
 pub fn lower(b: Bar) -> f64
     ensures { result ≡ lower_of b }
 {
@@ -35,6 +38,7 @@ pub fn lower(b: Bar) -> f64
 }
 
 // The longer shadow.
+#[tactic(auto, unfolding(crate::specs::Bar::long_shadow))]
 pub fn long_shadow(b: Bar) -> f64
     ensures { result ≡ long_shadow b }
 {

@@ -1,4 +1,4 @@
-// Prices and bars by themselves: what Rust's f64 methods name, written out, and the measures of one bar. All is proved, nothing is assumed,
+// Prices and bars by themselves: the values and measures of one price, and the measures of one bar. All is proved, nothing is assumed,
 // and no public function has a `requires`: each contract is an equation with a definition of specs/, for every input, NaN, infinities and
 // signs of zero included.
 #![tactic(auto)]

@@ -1,6 +1,7 @@
 // The recognisers that read the quarter: 0, 1, 7, 8 and 15. b1 is the judged bar, b2 the one before.
 // All is proved, nothing is assumed, and no public function has a `requires`: each contract is an equation with a definition of specs/,
 // for every input.
+// Bars come one by one, newest first, as the definitions name them: an array of them would put numbers in place of names.
 #![tactic(auto)]
 
 ghost use Rattle.std.specs.Prelude.{◌≡◌};
@@ -9,10 +10,11 @@ ghost use Rattle.quarter_rules.specs.QuarterRule.{quarter_in, quarter_of, quarte
 
 use measures::{Bar, Extremes};
 use rule_types::counts::QUARTER_BARS;
-use rule_types::label::{Label, Pair, pick};
+use rule_types::label::{Label, Pair, pair_b, pick};
+use std::num;
 
 // The side of the quarter that the judged bar reaches into; the low side is tried first.
-#[derive(Clone, Copy)]
+#[derive(Clone, Copy, Debug, PartialEq, Eq)]
 pub struct Quarter {
     pub low: bool,
     pub high: bool,
@@ -35,6 +37,7 @@ pub fn quarter_extremes(w: &[f64]) -> Extremes
     measures::extremes_of(measures::last_bars(w, 1, QUARTER_BARS))
 }
 
+#[tactic(auto, unfolding(crate::specs::QuarterRule::quarter_of))]
 pub fn quarter_of(deep: bool, w: &[f64]) -> Quarter
     ensures { result ≡ quarter_of deep (bars_of w.now) }
 {
@@ -44,18 +47,19 @@ pub fn quarter_of(deep: bool, w: &[f64]) -> Quarter
 // 0: san_xing_xian
 
 // x cut to a whole number; 0 if x is not above -1 and below 2^64.
+#[tactic(auto, unfolding(crate::specs::QuarterRule::cut_of))]
 fn cut(x: f64) -> f64
     ensures { result ≡ cut_of x }
 {
-    if x > -1.0 {
-        if x < 18446744073709551616.0 {
-            return std::num::nearest_u64_to_f64(std::num::truncating_f64_to_u64(x));
-        }
+    if x > -1.0 && x < 18446744073709551616.0 {
+        num::nearest_u64_to_f64(num::truncating_f64_to_u64(x))
+    } else {
+        0.0
     }
-    0.0
 }
 
 // A long lower shadow and a short upper one.
+#[tactic(auto, unfolding(crate::specs::QuarterRule::umbrella_of))]
 fn is_umbrella(b: Bar, th: f64) -> bool
     ensures { result ≡ umbrella_of th b }
 {
@@ -64,6 +68,7 @@ fn is_umbrella(b: Bar, th: f64) -> bool
     (measures::lower(b) > body * t / 100.0) & (measures::upper(b) < 0.2 * body)
 }
 
+#[tactic(auto, unfolding(crate::specs::QuarterRule::san_xing_xian))]
 pub fn san_xing_xian(th: f64, q: Quarter, b1: Bar) -> Pair
     ensures { result ≡ san_xing_xian th q b1 }
 {
@@ -79,6 +84,8 @@ pub fn san_xing_xian(th: f64, q: Quarter, b1: Bar) -> Pair
 
 // 1: ten_mo
 
+// The two are mirrors, with each comparison turned round: one function of both, told which, would be no plainer. So it is with
+// parts_down and parts_up, and with counters_up and counters_down.
 fn engulfs_up(b1: Bar, b2: Bar) -> bool
     ensures { result ≡ engulfs_up b1 b2 }
 {
@@ -91,6 +98,7 @@ fn engulfs_down(b1: Bar, b2: Bar) -> bool
     (b1.close < b1.open) & (b1.close < b2.low) & (b1.open > b2.high)
 }
 
+#[tactic(auto, unfolding(crate::specs::QuarterRule::ten_mo))]
 pub fn ten_mo(q: Quarter, b1: Bar, b2: Bar) -> Pair
     ensures { result ≡ ten_mo q b1 b2 }
 {
@@ -114,30 +122,23 @@ pub fn ten_mo(q: Quarter, b1: Bar, b2: Bar) -> Pair
 fn parts_down(zdf: u32, b1: Bar, b2: Bar) -> bool
     ensures { result ≡ parts_down zdf b1 b2 }
 {
-    let level = b1.open == b2.open;
-    if level {
-        (b1.close < b2.low)
+    b1.open == b2.open
+        && (b1.close < b2.low)
             & (b2.close > b2.open)
             & ((b2.close - b1.close) / b2.close * 10000.0 > zdf as f64)
-    } else {
-        false
-    }
 }
 
 fn parts_up(zdf: u32, b1: Bar, b2: Bar) -> bool
     ensures { result ≡ parts_up zdf b1 b2 }
 {
-    let level = b1.open == b2.open;
-    if level {
-        (b1.close > b2.high)
+    b1.open == b2.open
+        && (b1.close > b2.high)
             & (b2.close < b2.open)
             & ((b1.close - b2.close) / b2.close * 10000.0 > zdf as f64)
-    } else {
-        false
-    }
 }
 
 // Equal opens bind the first alternative only.
+#[tactic(auto, unfolding(crate::specs::QuarterRule::fen_shou_xian))]
 pub fn fen_shou_xian(zdf: u32, q: Quarter, b1: Bar, b2: Bar) -> Pair
     ensures { result ≡ fen_shou_xian zdf q b1 b2 }
 {
@@ -159,6 +160,7 @@ pub fn fen_shou_xian(zdf: u32, q: Quarter, b1: Bar, b2: Bar) -> Pair
 
 // 8: zhu_huo_xian
 
+#[tactic(auto, unfolding(crate::specs::QuarterRule::candle_of))]
 fn is_candle(b: Bar, th: f64, zf: u32) -> bool
     ensures { result ≡ candle_of th zf b }
 {
@@ -171,6 +173,7 @@ fn is_candle(b: Bar, th: f64, zf: u32) -> bool
         & ((b.low != 0.0) & ((b.high - b.low) / b.low * 10000.0 >= zf as f64))
 }
 
+#[tactic(auto, unfolding(crate::specs::QuarterRule::zhu_huo_xian))]
 pub fn zhu_huo_xian(th: f64, zf: u32, q: Quarter, b1: Bar) -> Pair
     ensures { result ≡ zhu_huo_xian th zf q b1 }
 {
@@ -188,19 +191,15 @@ pub fn zhu_huo_xian(th: f64, zf: u32, q: Quarter, b1: Bar) -> Pair
 
 // Whether bar3 opens a body or more from the close of bar2 and comes back to it, after a body of some size. Few bars open that far off, so
 // that one division is made for most.
+#[tactic(auto, unfolding(crate::specs::QuarterRule::counters_of))]
 fn counters(e: Extremes, bar2: Bar, bar3: Bar) -> bool
     ensures { result ≡ counters_of e bar2 bar3 }
 {
     let body2 = measures::body(bar2);
     let x1 = measures::abs(bar3.open - bar2.close) / body2;
-    let far = (bar2.close != bar2.open) & (x1 >= 1.0);
-    if far {
-        let x2 = measures::abs(bar3.close - bar2.close) / body2;
-        let x3 = body2 / (e.highest - e.lowest);
-        (x2 <= 0.1) & (x3 >= 0.02)
-    } else {
-        false
-    }
+    (bar2.close != bar2.open) & (x1 >= 1.0)
+        && (measures::abs(bar3.close - bar2.close) / body2 <= 0.1)
+            & (body2 / (e.highest - e.lowest) >= 0.02)
 }
 
 fn counters_up(e: Extremes, bar1: Bar, bar2: Bar, bar3: Bar) -> bool
@@ -221,11 +220,11 @@ fn counters_down(e: Extremes, bar1: Bar, bar2: Bar, bar3: Bar) -> bool
         & (bar2.close > bar2.open)
 }
 
+#[tactic(auto, unfolding(crate::specs::QuarterRule::fan_ji_xian))]
 pub fn fan_ji_xian(e: Extremes, bar1: Bar, bar2: Bar, bar3: Bar) -> Pair
     ensures { result ≡ fan_ji_xian e bar1 bar2 bar3 }
 {
-    let met = counters(e, bar2, bar3);
-    if met {
+    if counters(e, bar2, bar3) {
         let down = pick(
             counters_down(e, bar1, bar2, bar3),
             Label::BearishCounterattack,
@@ -240,9 +239,6 @@ pub fn fan_ji_xian(e: Extremes, bar1: Bar, bar2: Bar, bar3: Bar) -> Pair
             ),
         }
     } else {
-        Pair {
-            v1: Label::Other,
-            v2: Label::Any,
-        }
+        pair_b()
     }
 }

@@ -8,7 +8,7 @@ ghost use Rattle.rule_table.specs.TableSteps.{rules_of, pairs_of};
 use measures::back;
 use quarter_rules::{quarter_extremes, quarter_in, quarter_of};
 use rule_types::counts::{GATE_END, QUARTER_BARS, REACH_BARS, RECOGNISERS};
-use rule_types::label::{Pair, pair_a, pair_b, pick_pair};
+use rule_types::label::{Pair, pair_a, pair_b, pick};
 use thresholds::Thresholds;
 
 // The p from which each rule holds, in the order of the numbers.
@@ -25,8 +25,8 @@ fn row(k: usize, p: usize, full: Pair) -> Pair
     requires { k < recognisers }
     ensures { result ≡ cond (ltb p (table_row k).from) (table_row k).short full }
 {
-    let short = pick_pair(SHORT_IS_B[k], pair_b(), pair_a());
-    pick_pair(p < FROM[k], short, full)
+    let short = pick(SHORT_IS_B[k], pair_b(), pair_a());
+    pick(p < FROM[k], short, full)
 }
 
 // The rule of recogniser k over the window w that ends with the judged bar; deep: 22 bars or more lie up to it. The gate of 12 reads len

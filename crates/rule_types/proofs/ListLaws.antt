@@ -2,19 +2,18 @@
 use Prim.Native.Nat.{ℕ, zero, suc, ◌+◌, ◌<◌}
 use mathlib.Core.Path.{◌≡◌, refl, ap, ◌∙◌}
 use mathlib.Core.Bool.{Bool, true, false, ◌&&◌}
-use mathlib.Core.List.{List, [], ◌∷◌, ◌++◌, map, append_assoc}
+use mathlib.Core.List.{List, ◌++◌, map, append_assoc}
 use native.Mathlib.Nat.{add-zero, le_of_suc-le-suc, not-suc-le-zero}
 use native.Mathlib.Numerals.{add-one}
 use native.Mathlib.Omega.{arith}
 use lib.ListN.{length, get_or, set, take, drop}
 use lib.Seq.{drop-cons, set_at, take-suc, length-take-le}
+use Rattle.std.proofs.lemmas.List.{get_or-map}
 use Rattle.rule_types.specs.Number.{numbers}
 
 -- an element of a mapped list
 pub get_d_map : {A B : Type 0} (f : A → B) (xs : List A) (k : ℕ) (d : A) (e : B) → k < length xs → get_or (map f xs) k e ≡ f (get_or xs k d)
-get_d_map f [] k d e h = absurd (not-suc-le-zero h)
-get_d_map f (x ∷ xs) zero d e h = refl
-get_d_map f (x ∷ xs) (suc k) d e h = get_d_map f xs k d e (le_of_suc-le-suc h)
+get_d_map = get_or-map
 
 -- the k-th of the values of n numbers from j on, and how many there are
 pub number_at : {A : Type 0} (f : ℕ → A) (n j k : ℕ) (d : A) → k < n → get_or (map f (numbers n j)) k d ≡ f (j + k)

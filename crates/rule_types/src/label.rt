@@ -1,9 +1,12 @@
 // Labels and pairs of labels.
-ghost use Rattle.std.specs.Prelude.{◌≡◌, cond};
+ghost use Rattle.std.specs.Prelude.{◌≡◌};
 ghost use Rattle.rule_types.specs.Label.{code_of, pair_a, pair_b};
 
+// The choice that the rules make, of labels and of pairs.
+pub use prices::price::pick;
+
 // The 38 labels, in the order of their codes, each with the source's text.
-#[derive(Clone, Copy)]
+#[derive(Clone, Copy, Debug, PartialEq, Eq)]
 pub enum Label {
     // 其他
     Other,
@@ -84,24 +87,10 @@ pub enum Label {
 }
 
 // What a recogniser answers.
-#[derive(Clone, Copy)]
+#[derive(Clone, Copy, Debug, PartialEq, Eq)]
 pub struct Pair {
     pub v1: Label,
     pub v2: Label,
-}
-
-// x if c holds, else y.
-pub fn pick(c: bool, x: Label, y: Label) -> Label
-    ensures { result ≡ cond c x y }
-{
-    if c { x } else { y }
-}
-
-// p if c holds, else q.
-pub fn pick_pair(c: bool, p: Pair, q: Pair) -> Pair
-    ensures { result ≡ cond c p q }
-{
-    if c { p } else { q }
 }
 
 // The short pairs: A is 其他/其他, B is 其他/任意.
@@ -123,48 +112,9 @@ pub fn pair_b() -> Pair
     }
 }
 
-// The code of a label.
+// The code of a label: its place in the list.
 pub fn code(l: Label) -> u8
     ensures { result ≡ code_of l }
 {
-    match l {
-        Label::Other => 0,
-        Label::Any => 1,
-        Label::Met => 2,
-        Label::Hammer => 3,
-        Label::HangingMan => 4,
-        Label::BullishEngulfing => 5,
-        Label::BearishEngulfing => 6,
-        Label::RisingThreeMethods => 7,
-        Label::FallingThreeMethods => 8,
-        Label::Bars5 => 9,
-        Label::Bars6 => 10,
-        Label::Bars7 => 11,
-        Label::Bars8 => 12,
-        Label::Bars9 => 13,
-        Label::MorningStar => 14,
-        Label::EveningStar => 15,
-        Label::MiddleDoji => 16,
-        Label::FallingSeparatingLines => 17,
-        Label::RisingSeparatingLines => 18,
-        Label::ArrowOnString => 19,
-        Label::CandleInWind => 20,
-        Label::Bearish => 21,
-        Label::Bullish => 22,
-        Label::Bottom => 23,
-        Label::Top => 24,
-        Label::StandardBody => 25,
-        Label::Regular => 26,
-        Label::Strong => 27,
-        Label::HalfStrong => 28,
-        Label::DragonflyDoji => 29,
-        Label::GravestoneDoji => 30,
-        Label::LongLeggedDoji => 31,
-        Label::CommonDoji => 32,
-        Label::Northern => 33,
-        Label::BullishCounterattack => 34,
-        Label::BearishCounterattack => 35,
-        Label::GapUp => 36,
-        Label::GapDown => 37,
-    }
+    l as u8
 }

@@ -1,6 +1,7 @@
 // The recognisers of stars, which are bars with a small body or none: 6, 13 and 14. b1 is the judged bar, b2 the one before.
 // All is proved, nothing is assumed, and no public function has a `requires`: each contract is an equation with a definition of specs/,
 // for every input.
+// Bars come one by one, newest first, as the definitions name them: an array of them would put numbers in place of names.
 #![tactic(auto)]
 
 ghost use Rattle.std.specs.Prelude.{◌≡◌, cond, ◌≤◌};
@@ -13,6 +14,7 @@ use rule_types::label::{Label, Pair, pick};
 // 6: xing_xian
 
 // A middle body below the th-th part of the first, and the first below the sum of the others.
+#[tactic(auto, unfolding(crate::specs::StarRule::star_bodies))]
 fn has_star_bodies(th: u32, b1: Bar, b2: Bar, b3: Bar) -> bool
     ensures { result ≡ star_bodies th b1 b2 b3 }
 {
@@ -21,6 +23,8 @@ fn has_star_bodies(th: u32, b1: Bar, b2: Bar, b3: Bar) -> bool
     (x2 * (th as f64) < x3) & (x3 < x2 + measures::body(b1))
 }
 
+// The two are mirrors, with each comparison turned round and min for max: one function of both, told which, would be no plainer.
+#[tactic(auto, unfolding(crate::specs::StarRule::morning_of))]
 fn is_morning(th: u32, b1: Bar, b2: Bar, b3: Bar) -> bool
     ensures { result ≡ morning_of th b1 b2 b3 }
 {
@@ -34,6 +38,7 @@ fn is_morning(th: u32, b1: Bar, b2: Bar, b3: Bar) -> bool
         & (b1.open > measures::max(b2.close, b2.open))
 }
 
+#[tactic(auto, unfolding(crate::specs::StarRule::evening_of))]
 fn is_evening(th: u32, b1: Bar, b2: Bar, b3: Bar) -> bool
     ensures { result ≡ evening_of th b1 b2 b3 }
 {
@@ -47,6 +52,7 @@ fn is_evening(th: u32, b1: Bar, b2: Bar, b3: Bar) -> bool
         & (b1.open < measures::min(b2.close, b2.open))
 }
 
+#[tactic(auto, unfolding(crate::specs::StarRule::xing_xian))]
 pub fn xing_xian(th: u32, b1: Bar, b2: Bar, b3: Bar) -> Pair
     ensures { result ≡ xing_xian th b1 b2 b3 }
 {
@@ -59,6 +65,7 @@ pub fn xing_xian(th: u32, b1: Bar, b2: Bar, b3: Bar) -> Pair
 
 // 13: szx; its th, and that of 14, counts tenths, which the doji test divides.
 
+#[tactic(auto, unfolding(crate::specs::StarRule::doji_kind))]
 fn doji_kind(b1: Bar, b2: Bar) -> Label
     ensures { result ≡ doji_kind b1 b2 }
 {
@@ -78,12 +85,14 @@ fn doji_kind(b1: Bar, b2: Bar) -> Label
     pick(down > up * 2.0, Label::DragonflyDoji, grave)
 }
 
+#[tactic(auto, unfolding(crate::specs::StarRule::northern_of))]
 fn is_northern(b: Bar) -> bool
     ensures { result ≡ northern_of b }
 {
     (b.close > b.open) & (measures::body(b) > (measures::upper(b) + measures::lower(b)) * 3.0)
 }
 
+#[tactic(auto, unfolding(crate::specs::StarRule::szx))]
 pub fn szx(th: u32, b1: Bar, b2: Bar) -> Pair
     ensures { result ≡ szxOf th b1 b2 }
 {
@@ -100,10 +109,10 @@ pub fn szx(th: u32, b1: Bar, b2: Bar) -> Pair
 fn doji_one(th: f64, b: Bar) -> u32
     ensures { (result ≡ cond (doji_of th b) 1 0) × (result ≤ 1) }
 {
-    let doji = measures::is_doji(b, th);
-    if doji { 1 } else { 0 }
+    u32::from(measures::is_doji(b, th))
 }
 
+#[tactic(auto, unfolding(crate::specs::StarRule::san_szx, crate::specs::StarRule::doji_count))]
 pub fn san_szx(th: u32, b1: Bar, b2: Bar, b3: Bar, b4: Bar, b5: Bar) -> Pair
     ensures { result ≡ san_szx th b1 b2 b3 b4 b5 }
 {

@@ -8,7 +8,7 @@ ghost use Rattle.thresholds.specs.Threshold.{thresholds_of, standard_set, float_
 use rule_types::counts::{MOST_TENTHS, MOST_WHOLE};
 
 // The digit at the end of a name is the recogniser's number. th13 and th14 count tenths.
-#[derive(Clone, Copy)]
+#[derive(Clone, Copy, Debug, PartialEq)]
 pub struct Thresholds {
     pub th0: f64,
     pub z2: u32,
@@ -43,12 +43,14 @@ impl Thresholds {
         th14: 100,
     };
 
+    #[tactic(auto, unfolding(crate::specs::Threshold::standard_set))]
     pub fn standard() -> Thresholds
         ensures { result ≡ standard_set }
     {
         Thresholds::STANDARD
     }
 
+    // A host hands them one by one (jcc_label), so that they are parameters.
     pub fn new(
         th0: f64,
         z2: u32,
@@ -84,6 +86,7 @@ impl Thresholds {
     }
 
     // Whether every threshold is inside its limits; NaN is not.
+    #[tactic(auto, unfolding(crate::specs::Threshold::valid_of))]
     pub fn is_valid(self) -> bool
         ensures { result ≡ valid_of self }
     {

@@ -1,8 +1,8 @@
 -- Hours, window by window: the place of the window that has a minute, and windows that rise. Assumes nothing.
 use Prim.Native.Nat.{ℕ, zero, suc, ◌+◌, ◌-◌, ◌≤◌, ◌<◌}
-use mathlib.Core.Path.{◌≡◌, refl, ap, sym, ◌∙◌}
+use mathlib.Core.Path.{◌≡◌, refl, sym, ◌∙◌}
 use mathlib.Core.Bool.{Bool, true, false, cond, ◌||◌}
-use mathlib.Core.List.{List, [], ◌∷◌, ◌++◌, append-nil}
+use mathlib.Core.List.{List, [], ◌∷◌, append-nil}
 use native.Mathlib.Omega.{arith}
 use native.Mathlib.Decide.{dec_le}
 use native.Mathlib.Numerals.{add-one}
@@ -10,25 +10,32 @@ use lib.Dec.{ltb, leb-suc-suc}
 use lib.ListN.{length, get_or, take, drop, replicate, drop_of_length-le}
 use lib.Seq.{drop-cons, take_at, take_all, length-take-le}
 use borrow.Author.Tests.{lt-ltb}
+use Rattle.std.specs.List.{list_any, find}
+use Rattle.std.specs.Prelude.{Some}
+use Rattle.std.specs.Option.{UnwrapsOrElse}
 use Rattle.trading_hours.specs.declared.hours.DayWindow.{DayWindow}
 use Rattle.trading_hours.specs.declared.hours.Hours.{Hours}
 use Rattle.trading_hours.specs.Hours.{has, any_has, place_of, no_window, rising_from, follows, most_windows, windows_of, with_zeros, term_length}
 pub use Rattle.rule_types.proofs.ListLaws.{both}
 
--- ---- the place of the window that has a minute
+-- ---- the windows that have a minute, as the library looks for them
 
-module _ (ws : List DayWindow) (i x : ℕ) (h : i < length ws) where
-  pub place-next : has (get_or ws i no_window) x ≡ false → place_of (drop i ws) x ≡ suc (place_of (drop (i + 1) ws) x)
-  unfolding place_of
-  place-next e = rw (add-one i, drop-cons ws i no_window h) (simp e)
+pub any-list : (ws : List DayWindow) (x : ℕ) → any_has ws x ≡ list_any (λ w. has w x) ws
+unfolding any_has
+any-list [] x = refl
+any-list (w ∷ ws) x = rw (any-list ws x)
 
-  pub place_found : has (get_or ws i no_window) x ≡ true → place_of (drop i ws) x ≡ 0
-  unfolding place_of
-  place_found e = rw (drop-cons ws i no_window h) (simp e)
-
-pub place-past : (ws : List DayWindow) (i x : ℕ) → length ws ≤ i → place_of (drop i ws) x ≡ 0
+-- the first that has it, or else a window of which P holds, stands at its place
+pub found-place : (P : DayWindow → Type 0) → ((d : DayWindow) → P d → d ≡ no_window) → (ws : List DayWindow) (x : ℕ) (r : DayWindow)
+    → UnwrapsOrElse (find (λ w. has w x) ws) P r → r ≡ get_or ws (place_of ws x) no_window
 unfolding place_of
-place-past ws i x h = rw (drop_of_length-le ws h)
+found-place P none [] x r u = none r u
+found-place P none (w ∷ ws) x r u = go (has w x) u (found-place P none ws x r)
+  where
+    go : (t : Bool) → UnwrapsOrElse (cond t (Some w) (find (λ w. has w x) ws)) P r
+        → (UnwrapsOrElse (find (λ w. has w x) ws) P r → r ≡ get_or ws (place_of ws x) no_window) → r ≡ get_or (w ∷ ws) (cond t 0 (suc (place_of ws x))) no_window
+    go true v rest = v
+    go false v rest = rest v
 
 -- a window has the minute exactly if its place is one of them
 pub any_place : (ws : List DayWindow) (x : ℕ) → any_has ws x ≡ ltb (place_of ws x) (length ws)
@@ -76,21 +83,3 @@ zeros-windows h full =
           let all : used ≡ h.windows = take_all n h.windows (omega arith) in
           rw (none, append-nil used, all) all)
     ]
-
--- place by place: a window in use, or zeros
-pub zeros-places : (ws : List DayWindow) (n : ℕ) → length ws ≡ most_windows
-    → let used = take n ws in (get_or used 0 no_window ∷ get_or used 1 no_window ∷ get_or used 2 no_window ∷ get_or used 3 no_window ∷ []) ≡ used ++ replicate (most_windows - n) no_window
-zeros-places [] n e = absurd (let z : ⊥ = omega arith in z)
-zeros-places (a ∷ []) n e = absurd (let z : ⊥ = omega arith in z)
-zeros-places (a ∷ b ∷ []) n e = absurd (let z : ⊥ = omega arith in z)
-zeros-places (a ∷ b ∷ c ∷ []) n e = absurd (let z : ⊥ = omega arith in z)
-zeros-places (a ∷ b ∷ c ∷ d ∷ x ∷ ws) n e = absurd (let z : ⊥ = omega arith in z)
-zeros-places (a ∷ b ∷ c ∷ d ∷ []) zero e = refl
-zeros-places (a ∷ b ∷ c ∷ d ∷ []) (suc zero) e = refl
-zeros-places (a ∷ b ∷ c ∷ d ∷ []) (suc (suc zero)) e = refl
-zeros-places (a ∷ b ∷ c ∷ d ∷ []) (suc (suc (suc zero))) e = refl
-zeros-places (a ∷ b ∷ c ∷ d ∷ []) (suc (suc (suc (suc n)))) e =
-    let none : most_windows - suc (suc (suc (suc n))) ≡ 0 = omega arith in
-    let empty : List DayWindow = [] in
-    let past : take n empty ++ replicate (most_windows - suc (suc (suc (suc n)))) no_window ≡ [] = rw (none, take_all n empty (omega arith)) in
-    ap (λ (rest : List DayWindow). a ∷ b ∷ c ∷ d ∷ rest) (sym past)

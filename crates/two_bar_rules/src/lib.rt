@@ -1,6 +1,7 @@
 // The recognisers of the two newest bars: 2, 3, 9 and 10. b1 is the judged bar, b2 the one before.
 // All is proved, nothing is assumed, and no public function has a `requires`: each contract is an equation with a definition of specs/,
 // for every input.
+// Bars come one by one, newest first, as the definitions name them: an array of them would put numbers in place of names.
 #![tactic(auto)]
 
 ghost use Rattle.std.specs.Prelude.{◌≡◌};
@@ -15,19 +16,17 @@ use rule_types::label::{Label, Pair, pair_b, pick};
 // 2: wu_yun_gai_ding
 
 // Few bars open above the high before, so that most need no division.
+#[tactic(auto, unfolding(crate::specs::TwoBarRule::covers_of))]
 fn covers(z: u32, th: u32, b1: Bar, b2: Bar) -> bool
     ensures { result ≡ covers_of z th b1 b2 }
 {
-    let above = b1.open > b2.high;
-    if above {
-        ((b2.close - b2.open) / b2.open * 10000.0 > z as f64)
+    b1.open > b2.high
+        && ((b2.close - b2.open) / b2.open * 10000.0 > z as f64)
             & (b1.close < (b2.close + b2.open) * (th as f64 / 100.0))
-    } else {
-        false
-    }
 }
 
 // The ten closes are folded only where the two newest bars have the shape.
+#[tactic(auto, unfolding(crate::specs::TwoBarRule::wu_yun_gai_ding))]
 pub fn wu_yun_gai_ding(z: u32, th: u32, w: &[f64], b1: Bar, b2: Bar) -> Pair
     ensures { result ≡ wu_yun_gai_ding z th (highest_of (column_of Close (ten_closes (bars_of w.now)))) b1 b2 }
 {
@@ -39,10 +38,7 @@ pub fn wu_yun_gai_ding(z: u32, th: u32, w: &[f64], b1: Bar, b2: Bar) -> Pair
             v2: Label::Any,
         }
     } else {
-        Pair {
-            v1: Label::Other,
-            v2: Label::Any,
-        }
+        pair_b()
     }
 }
 
@@ -50,17 +46,14 @@ pub fn wu_yun_gai_ding(z: u32, th: u32, w: &[f64], b1: Bar, b2: Bar) -> Pair
 
 // The newest bar opens below the low before and closes far enough up in that bar's body. Few bars open there, so that most need no
 // division.
+#[tactic(auto, unfolding(crate::specs::TwoBarRule::comes_back))]
 fn comes_back(th: u32, b1: Bar, b2: Bar) -> bool
     ensures { result ≡ comes_back th b1 b2 }
 {
-    let below = b1.open < b2.low;
-    if below {
-        b1.close > b2.close + (b2.open - b2.close) * (th as f64 / 100.0)
-    } else {
-        false
-    }
+    b1.open < b2.low && b1.close > b2.close + (b2.open - b2.close) * (th as f64 / 100.0)
 }
 
+#[tactic(auto, unfolding(crate::specs::TwoBarRule::ci_tou))]
 pub fn ci_tou(z: u32, th: u32, b1: Bar, b2: Bar) -> Pair
     ensures { result ≡ ci_tou z th b1 b2 }
 {
@@ -78,6 +71,7 @@ pub fn ci_tou(z: u32, th: u32, b1: Bar, b2: Bar) -> Pair
 
 // 9: yun_xian
 
+// The two are mirrors, with each comparison turned round: one function of both, told which, would be no plainer.
 fn holds_falling(b1: Bar, b2: Bar) -> bool
     ensures { result ≡ holds_falling b1 b2 }
 {
@@ -90,6 +84,7 @@ fn holds_rising(b1: Bar, b2: Bar) -> bool
     (b2.close < b1.close) & (b1.close < b2.open) & (b2.close < b1.open) & (b1.open < b2.open)
 }
 
+#[tactic(auto, unfolding(crate::specs::TwoBarRule::yun_xian))]
 pub fn yun_xian(b1: Bar, b2: Bar) -> Pair
     ensures { result ≡ yun_xian b1 b2 }
 {
@@ -105,12 +100,14 @@ pub fn yun_xian(b1: Bar, b2: Bar) -> Pair
 // 10: ping_tou
 
 // Two prices lie less than th ten thousandths of the greater apart.
+#[tactic(auto, unfolding(crate::specs::TwoBarRule::flat_of))]
 fn is_flat(th: u32, x: f64, y: f64) -> bool
     ensures { result ≡ flat_of th x y }
 {
     measures::abs(x - y) * 10000.0 / measures::max(x, y) < th as f64
 }
 
+#[tactic(auto, unfolding(crate::specs::TwoBarRule::ping_tou))]
 pub fn ping_tou(th: u32, b1: Bar, b2: Bar) -> Pair
     ensures { result ≡ ping_tou th b1 b2 }
 {

@@ -18,20 +18,15 @@ pub fn count(prices: &[f64]) -> usize
 pub fn least(a: usize, b: usize) -> usize
     ensures { result ≡ Nat.min a b }
 {
-    if a < b { a } else { b }
+    a.min(b)
 }
 
 // How many of len bars there are up to the judged one, the di-th from the end; 0 if there is none.
+#[tactic(auto, unfolding(crate::specs::Window::up_to))]
 pub fn up_to(len: usize, di: usize) -> usize
     ensures { result ≡ up_to len di }
 {
-    if di == 0 {
-        0
-    } else if len < di {
-        0
-    } else {
-        len - di + 1
-    }
+    if di == 0 || len < di { 0 } else { len - di + 1 }
 }
 
 // The prices of the bars from one place of a run to another.
@@ -63,6 +58,7 @@ pub fn last_bars(prices: &[f64], di: usize, n: usize) -> &[f64]
 
 // The window function: the part of the lent prices with the last n bars up to the judged one, the di-th from the end; an empty
 // part if the prices do not make whole bars.
+#[tactic(auto, unfolding(crate::specs::Window::part_of))]
 pub fn window(prices: &[f64], di: u32, n: usize) -> &[f64]
     ensures { result.now ≡ part_of prices.now di n }
 {

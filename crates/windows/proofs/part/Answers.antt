@@ -1,5 +1,4 @@
 -- A part that begins and ends with a bar.
-use mathlib.Core.Path.{refl}
 use native.Mathlib.Omega.{arith}
 use Rattle.windows.proofs.RunLaws.{length-bars}
 use Rattle.windows.proofs.part.Goals as goal
@@ -15,6 +14,3 @@ offset_bounds-prices-a c = omega (arith, length-bars c.args.prices.now)
 
 pub slice_bounds-result-end : goal.slice_bounds-result-end
 slice_bounds-result-end c = omega (arith, length-bars c.args.prices.now)
-
-pub returns : goal.returns
-returns c = refl

@@ -1,8 +1,8 @@
--- -1.0 / 0.0 is minus infinity, which antt computes.
+-- The bits of the constant, which antt computes.
 use mathlib.Core.Path.{refl}
-use lib.Ieee.{of_bits, div, neg}
+use lib.Ieee.{of_bits}
 use Rattle.prices.proofs.price.minus_infinity.Goals as goal
 
 pub returns : goal.returns
-unfolding of_bits div neg
+unfolding of_bits
 returns c = refl

@@ -1,8 +1,8 @@
--- 0.0 / 0.0 is NaN, which antt computes.
+-- The bits of the constant, which antt computes.
 use mathlib.Core.Path.{refl}
-use lib.Ieee.{of_bits, div}
+use lib.Ieee.{of_bits}
 use Rattle.prices.proofs.price.not_a_number.Goals as goal
 
 pub returns : goal.returns
-unfolding of_bits div
+unfolding of_bits
 returns c = refl

@@ -8,4 +8,4 @@ pub returns : goal.returns
 returns c =
     let args = c.args in
     let given : args.k < recognisers = c.requires in
-    simp (c.pick_pair.ensures, c.pick_pair-short.ensures, c.pair_a.ensures, c.pair_b.ensures, from_at args.k given, short-at args.k given)
+    simp (c.pick.ensures, c.pick-short.ensures, c.pair_a.ensures, c.pair_b.ensures, from_at args.k given, short-at args.k given)

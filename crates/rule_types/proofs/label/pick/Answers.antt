@@ -1,8 +1,0 @@
--- The branch is the definition's.
-use Rattle.rule_types.proofs.label.pick.Goals as goal
-
-pub returns-then-c : goal.returns-then-c
-returns-then-c c = simp c.if-c.true
-
-pub returns-else-c : goal.returns-else-c
-returns-else-c c = simp c.if-c.false
