@@ -19,6 +19,11 @@ use Rattle.rule_types.specs.Label.{code_of, pair_of, pair_a}
 use Rattle.growing_rules.specs.GrowingRule.{size_label, first_match, three_methods, san_fa_v20221118, tower, ta_xing, insert_of, bodies_down, bodies_up, last_but_one, bodies_known}
 use Rattle.growing_rules.specs.SearchSteps.{leaders_of, body_joined}
 
+-- only one label has the code 0
+pub other-code : (l : Label) → code_of l ≡ 0 → l ≡ Other
+other-code Other h = refl
+other-code l h = grind arith
+
 -- ---- the search, a size more: what was found stands; where nothing was, the window of that size decides
 
 module _ (check : List Bar → Label) (w : List Bar) where

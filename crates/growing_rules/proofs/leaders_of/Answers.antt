@@ -8,24 +8,18 @@ use Rattle.growing_rules.proofs.GrowingLaws.{leaders-grow}
 use Rattle.growing_rules.proofs.leaders_of.Goals as goal
 
 pub loop-i-init : goal.loop-i-init
-loop-i-init c = (omega arith, c.count-n.ensures, simp (newest-none, c.no_leaders-l.ensures))
-
-pub overflow_add-i : goal.overflow_add-i
-overflow_add-i c = omega arith
-
-pub loop-i-smaller : goal.loop-i-smaller
-loop-i-smaller c = omega arith
+loop-i-init c = simp (newest-none, c.no_leaders-l.ensures)
 
 pub loop-i-preserved : goal.loop-i-preserved
 loop-i-preserved c =
     let bars = bars_of c.args.s.now in
     let now = c.loop-i in
     let step = newest-more bars now.i (omega arith) in
-    (omega arith, now.invariant.1, simp (c.join-l.ensures, c.body.ensures, c.back.ensures, step, leaders-grow, now.invariant.2))
+    simp (c.join-l.ensures, c.body.ensures, c.back.ensures, step, leaders-grow, now.invariant)
 
 pub returns : goal.returns
 returns c =
     let bars = bars_of c.args.s.now in
     let now = c.loop-i in
     let e : now.i ≡ length bars = omega arith in
-    now.invariant.2 ∙ rw (e, newest-all bars)
+    now.invariant ∙ rw (e, newest-all bars)

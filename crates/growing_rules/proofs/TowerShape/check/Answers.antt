@@ -2,7 +2,7 @@
 use mathlib.Core.Path.{sym, ◌∙◌}
 use Rattle.measures.specs.Bar.{bars_of}
 use Rattle.growing_rules.proofs.ShapeLaws.{no-tower, tower-up, tower-down}
-use Rattle.growing_rules.proofs.tower.Goals as goal
+use Rattle.growing_rules.proofs.TowerShape.check.Goals as goal
 
 pub returns-then-last : goal.returns-then-last
 returns-then-last c =
