@@ -1,8 +1,8 @@
--- 02, P2: what the code asks of the extremes of a window's middle, and what its scan of 17's bodies carries. No public promise cites this file:
+-- 02, P2: what the code asks of the extremes of a window's middle, and what its scan of 17's bodies carries and gives. No public promise cites this file:
 -- those of 4 and 17 are in GrowingRule.
-use Rattle.std.specs.Prelude.{ℕ, ◌-◌, min, Bool, cond, not, ◌&&◌, ◌||◌, get_or, List, Float}
+use Rattle.std.specs.Prelude.{ℕ, ◌-◌, min, Bool, cond, ◌&&◌, ◌||◌, get_or, List, Option, Some, None, Float}
 use Rattle.std.specs.Float.{nan}
-use Rattle.std.specs.Float.Ieee.{lt, is_nan}
+use Rattle.std.specs.Float.Ieee.{lt}
 use Rattle.measures.specs.Bar.{Bar}
 use Rattle.rule_types.specs.declared.label.{Label.Label, Pair.Pair}
 use Rattle.rule_types.specs.Label.{pair_a}
@@ -58,15 +58,17 @@ found_of label_of end w n = first_match label_of (min n end - 5) 5 w
 abbrev pub searched_of : Both ℕ → List Bar → ℕ → Both Pair
 searched_of ends w n = record { methods = found_of three_methods ends.methods w n; tower = found_of tower ends.tower w n }
 
--- ---- what the scan of the bodies carries: the two greatest, NaN where there is none, and whether no body is NaN
+-- ---- what the scan of the bodies carries: the two greatest, NaN where there is none; it gives none where a body is NaN
 
-unfoldable pub leaders_of : List Bar → Leaders
-leaders_of s = record { first = get_or (bodies_down s) 0 nan; second = get_or (bodies_down s) 1 nan; known = bodies_known s }
+unfoldable pub two_of : List Bar → Leaders
+two_of s = record { first = get_or (bodies_down s) 0 nan; second = get_or (bodies_down s) 1 nan }
+
+unfoldable pub leaders_of : List Bar → Option Leaders
+leaders_of s = cond (bodies_known s) (Some (two_of s)) None
 
 -- an older bar's body x comes in front
 unfoldable pub body_joined : Float → Leaders → Leaders
 body_joined x l = record {
   first = cond (lt x l.first) l.first x;
   second = cond (lt x l.first) (cond (lt x l.second) l.second x) l.first;
-  known = not (is_nan x) && l.known;
 }

@@ -10,7 +10,7 @@ ghost use Rattle.growing_rules.specs.GrowingRule.{size_label, first_match, first
 ghost use Rattle.middles.specs.declared.Middle.{Middle};
 ghost use Rattle.rule_types.specs.declared.label.Label.{Label, TheVariants.Other};
 ghost use Rattle.middles.specs.MiddleSteps.{middle_of, middle_at};
-ghost use Rattle.growing_rules.specs.SearchSteps.{leaders_of, body_joined, may_rise, may_fall, may_be_top, may_be_bottom, may_be_methods, may_be_tower, beyond as beyondOf, no_match, found_of, searched_of};
+ghost use Rattle.growing_rules.specs.SearchSteps.{two_of, leaders_of, body_joined, may_rise, may_fall, may_be_top, may_be_bottom, may_be_methods, may_be_tower, beyond as beyondOf, no_match, found_of, searched_of};
 
 use measures::{Bar, Column};
 use middles::{Middle, first_middle, grow};
@@ -124,22 +124,20 @@ impl Shape for ThreeMethods {
 
 // 17: ta_xing. What the ends and the middle's extremes answer is tested before the bodies are scanned, which costs the most.
 
-// The two greatest bodies of a window, and whether no body is NaN.
+// The two greatest bodies of a window, NaN where there is none.
 #[derive(Clone, Copy)]
 struct Leaders {
     pub first: f64,
     pub second: f64,
-    pub known: bool,
 }
 
 fn no_leaders() -> Leaders
-    ensures { result ≡ leaders_of [] }
+    ensures { result ≡ two_of [] }
 {
     let nan = measures::price::not_a_number();
     Leaders {
         first: nan,
         second: nan,
-        known: true,
     }
 }
 
@@ -151,29 +149,34 @@ fn join(l: Leaders, x: f64) -> Leaders
     Leaders {
         first: measures::pick(behind, l.first, x),
         second: measures::pick(behind, measures::pick(x < l.second, l.second, x), l.first),
-        known: !measures::is_nan(x) & l.known,
     }
 }
 
-// One scan of the bodies, from the newest bar.
-fn leaders_of(s: &[f64]) -> Leaders
+// One scan of the bodies, from the newest bar; none lead where a body is NaN.
+fn leaders_of(s: &[f64]) -> Option<Leaders>
     ensures { result ≡ leaders_of (bars_of s.now) }
 {
     let mut l = no_leaders();
     for i in 0..measures::count(s) {
-        l = join(l, measures::body(measures::back(s, i + 1)));
+        let x = measures::body(measures::back(s, i + 1));
+        if measures::is_nan(x) {
+            return None;
+        }
+        l = join(l, x);
     }
-    l
+    Some(l)
 }
 
 // Whether the smaller of the end bodies is at least the last but one of the bodies in non-falling order.
 fn do_ends_lead(s: &[f64]) -> bool
     ensures { result ≡ ends_lead (bars_of s.now) }
 {
-    let l = leaders_of(s);
     let first = measures::body(first_bar(s));
     let last = measures::body(last_bar(s));
-    l.known & (l.second <= measures::min(first, last))
+    match leaders_of(s) {
+        Some(l) => l.second <= measures::min(first, last),
+        None => false,
+    }
 }
 
 fn may_be_top(first: Bar, last: Bar, m: Middle) -> bool
@@ -210,8 +213,7 @@ impl Shape for Tower {
     }
 
     fn check(s: &[f64]) -> Label {
-        let lead = do_ends_lead(s);
-        if lead {
+        if do_ends_lead(s) {
             let last = last_bar(s);
             if last.close > last.open {
                 let level = measures::variance(inner(s), Column::Low) < 0.5;
@@ -283,8 +285,7 @@ fn found_with<S: Shape>(found: Pair, end: usize, w: &[f64], n: usize, may: bool)
     requires { (5 ≤ n) × (n < 10) × (found ≡ found_of S.label_of end (bars_of w.now) n) × (may ≡ S.may_be (back_of (bars_of w.now) n) (back_of (bars_of w.now) 1) (middle_at (bars_of w.now) n)) × (may ≡ false → S.label_of (window_of (bars_of w.now) 1 n) ≡ Other) }
     ensures { result ≡ found_of S.label_of end (bars_of w.now) (n + 1) }
 {
-    let fits = (n < end) & may;
-    if fits {
+    if (n < end) & may {
         find_at::<S>(found, w, n)
     } else {
         found
@@ -316,8 +317,7 @@ fn search(ends: Both<usize>, w: &[f64], first: Middle) -> Both<Pair>
     for n in 5..TOWER_END {
         found = try_window(ends, found, w, n, m);
         m = grow(m, w, n);
-        let beyond = is_beyond(last, m);
-        if !beyond {
+        if !is_beyond(last, m) {
             return found;
         }
     }
@@ -329,8 +329,7 @@ fn found_in(ends: Both<usize>, w: &[f64]) -> Both<Pair>
     ensures { result ≡ searched_of ends (bars_of w.now) 10 }
 {
     let m = first_middle(w);
-    let beyond = is_beyond(measures::back(w, 1), m);
-    if beyond {
+    if is_beyond(measures::back(w, 1), m) {
         search(ends, w, m)
     } else {
         no_match()

@@ -7,7 +7,7 @@ use Rattle.growing_rules.proofs.found_in.Goals as goal
 pub search-requires : goal.search-requires
 search-requires c = c.first_middle-m.ensures
 
-pub returns-else-beyond : goal.returns-else-beyond
-returns-else-beyond c =
-    let within = rw (c.is_beyond-beyond.ensures, c.back.ensures, c.first_middle-m.ensures) at c.if-beyond.false in
+pub returns-else-is_beyond : goal.returns-else-is_beyond
+returns-else-is_beyond c =
+    let within = rw (c.is_beyond.ensures, c.back.ensures, c.first_middle-m.ensures) at c.if-is_beyond.false in
     c.no_match.ensures ∙ no-growing c.args.ends (bars_of c.args.w.now) within

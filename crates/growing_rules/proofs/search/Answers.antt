@@ -14,12 +14,12 @@ loop-n-init c =
 pub try_window-found-requires : goal.try_window-found-requires
 try_window-found-requires c = let now = c.loop-n in (omega arith, omega arith, now.invariant.2, now.invariant.1)
 
-pub returns-then-not-beyond : goal.returns-then-not-beyond
-returns-then-not-beyond c =
+pub returns-then-not-is_beyond : goal.returns-then-not-is_beyond
+returns-then-not-is_beyond c =
     let a = c.args in
     let w = bars_of a.w.now in
     let now = c.loop-n in
-    let unmet = rw (c.is_beyond-beyond.ensures, c.back-last.ensures, c.grow-m.ensures, now.invariant.1, at-grown w now.n (omega arith)) at c.if-not-beyond.true in
+    let unmet = rw (c.is_beyond.ensures, c.back-last.ensures, c.grow-m.ensures, now.invariant.1, at-grown w now.n (omega arith)) at c.if-not-is_beyond.true in
     c.try_window-found.ensures ∙ search-ends w (now.n + 1) (omega arith) (omega arith) (unmet) a.ends
 
 pub loop-n-preserved : goal.loop-n-preserved

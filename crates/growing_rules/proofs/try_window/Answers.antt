@@ -2,7 +2,6 @@
 use mathlib.Core.Path.{sym, ◌∙◌}
 use native.Mathlib.Omega.{arith}
 use Rattle.measures.specs.Bar.{bars_of}
-use Rattle.middles.specs.MiddleSteps.{middle_at}
 use Rattle.growing_rules.proofs.GrowingNeeds.{no-window}
 use Rattle.growing_rules.proofs.ShapeLaws.{methods_test, tower_test}
 use Rattle.growing_rules.proofs.try_window.Goals as goal
