@@ -208,25 +208,23 @@ pub every-above : (z x : Float) (xs : List Float) → every_of (λ y. lt z y) (x
 unfolding lowest_of
 every-above = told (λ x y. lt y x) min_of (inf false) lowest-extreme
 
--- ---- the extremes of a run that is cut into bars
+-- ---- the extremes of a run as bars are read
 
 pub extremes-none : record { highest = inf true; lowest = inf false } ≡ extremes_of []
 unfolding extremes_of highest_of lowest_of column_of
 extremes-none = refl
 
-abbrev seen_of : List (List Float) → ℕ → Extremes
-seen_of fours i = extremes_of (map bar_of_four (take i fours))
-
--- the i-th bar enters by one comparison a price
-pub extremes-later : (fours : List (List Float)) (i : ℕ) (top bottom : Float) → i < length fours
-    → record { highest = top; lowest = bottom } ≡ seen_of fours i
-    → (let b = bar_of_four (get_or fours i []) in record { highest = cond (lt top b.high) b.high top; lowest = cond (lt b.low bottom) b.low bottom }) ≡ seen_of fours (i + 1)
+-- one bar more enters by one comparison a price
+pub extremes-newer : (bars : List Bar) (b : Bar)
+    → (let e = extremes_of bars in record { highest = cond (lt e.highest b.high) b.high e.highest; lowest = cond (lt b.low e.lowest) b.low e.lowest }) ≡ extremes_of (bars ++ (b ∷ []))
 unfolding extremes_of highest_of lowest_of
-extremes-later fours i top bottom h e =
-    let bars = map bar_of_four (take i fours) in
-    let b = bar_of_four (get_or fours i []) in
-    let more : map bar_of_four (take (i + 1) fours) ≡ bars ++ (b ∷ []) = rw (take_more fours i [] h) (map-append bar_of_four (take i fours) (get_or fours i [] ∷ [])) in
-    let e-top : top ≡ highest_of (column_of High bars) = ap (λ (x : Extremes). x.highest) e in
-    let e-bottom : bottom ≡ lowest_of (column_of Low bars) = ap (λ (x : Extremes). x.lowest) e in
-    rw (more, e-top, e-bottom, fold-later max_of High (inf true) bars b, fold-later min_of Low (inf false) bars b)
+extremes-newer bars b =
+    rw (fold-later max_of High (inf true) bars b, fold-later min_of Low (inf false) bars b)
     (rw (max-of-known _ b.high (known-highest (column_of High bars)), min-of-known _ b.low (known-lowest (column_of Low bars))) refl)
+
+-- the i-th bar of a run that is cut into bars
+pub extremes-later : (fours : List (List Float)) (i : ℕ) (e : Extremes) → i < length fours → e ≡ extremes_of (map bar_of_four (take i fours))
+    → (let b = bar_of_four (get_or fours i []) in record { highest = cond (lt e.highest b.high) b.high e.highest; lowest = cond (lt b.low e.lowest) b.low e.lowest }) ≡ extremes_of (map bar_of_four (take (i + 1) fours))
+extremes-later fours i e h so_far =
+    let last = get_or fours i [] in
+    rw (so_far, take_more fours i [] h, map-append bar_of_four (take i fours) (last ∷ [])) (extremes-newer (map bar_of_four (take i fours)) (bar_of_four last))

@@ -12,7 +12,7 @@ loop-four-init c = simp (c.minus_infinity-top.ensures, c.plus_infinity-bottom.en
 pub loop-four-preserved : goal.loop-four-preserved
 loop-four-preserved c =
     let now = c.loop-four in
-    simp (c.pick-top.ensures, c.pick-bottom.ensures, c.bar_from-b.ensures) (extremes-later c.bars_in-four-items.result.now now.four-index now.top now.bottom (omega arith) now.invariant)
+    simp (c.pick-top.ensures, c.pick-bottom.ensures, c.bar_from-b.ensures) (extremes-later c.bars_in-four-items.result.now now.four-index _ (omega arith) now.invariant)
 
 pub returns : goal.returns
 returns c =
