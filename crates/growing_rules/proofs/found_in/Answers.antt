@@ -4,9 +4,6 @@ use Rattle.measures.specs.Bar.{bars_of}
 use Rattle.growing_rules.proofs.GrowingNeeds.{no-growing}
 use Rattle.growing_rules.proofs.found_in.Goals as goal
 
-pub search-requires : goal.search-requires
-search-requires c = c.first_middle-m.ensures
-
 pub returns-else-is_beyond : goal.returns-else-is_beyond
 returns-else-is_beyond c =
     let within = rw (c.is_beyond.ensures, c.back.ensures, c.first_middle-m.ensures) at c.if-is_beyond.false in

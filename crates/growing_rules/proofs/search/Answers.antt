@@ -11,9 +11,6 @@ pub loop-n-init : goal.loop-n-init
 loop-n-init c =
     (omega arith, c.requires, c.no_match-found.ensures ∙ searched-none c.args.ends (bars_of c.args.w.now))
 
-pub try_window-found-requires : goal.try_window-found-requires
-try_window-found-requires c = let now = c.loop-n in (omega arith, omega arith, now.invariant.2, now.invariant.1)
-
 pub returns-then-not-is_beyond : goal.returns-then-not-is_beyond
 returns-then-not-is_beyond c =
     let a = c.args in

@@ -15,6 +15,3 @@ pub found_with-tower-requires : goal.found_with-tower-requires
 found_with-tower-requires c =
     let is = rw (c.back-last.ensures, c.back-first.ensures, c.requires.3) at c.may_be-may_be_seventeen.ensures in
     (c.requires.0, c.requires.1, rw c.requires.2, is, λ unfit. no-window tower_test (bars_of c.args.w.now) c.args.n (omega arith) (sym is ∙ unfit))
-
-pub returns : goal.returns
-returns c = rw (c.found_with-tower.ensures, c.found_with-methods.ensures)
