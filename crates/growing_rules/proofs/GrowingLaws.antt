@@ -2,13 +2,15 @@
 -- Assumes nothing.
 use Prim.Native.Nat.{ℕ, zero, suc, ◌+◌, ◌-◌, ◌≤◌}
 use mathlib.Core.Path.{◌≡◌, refl, sym, ◌∙◌}
-use mathlib.Core.Bool.{Bool, true, false, cond}
+use mathlib.Core.Bool.{Bool, true, false, cond, not, and-false}
 use mathlib.Core.List.{List, [], ◌∷◌, reverse, reverse_aux}
 use native.Mathlib.Omega.{arith}
 use borrow.Author.Tests.{eqb-true, eqb-false, eq-eqb, ne_eqb}
 use lib.Dec.{eqb}
-use lib.ListN.{get_or}
-use lib.Ieee.{Float, nan, lt}
+use Rattle.std.proofs.Common.{Some, None}
+use Rattle.growing_rules.specs.declared.Leaders.{Leaders}
+use lib.ListN.{length, get_or, drop}
+use lib.Ieee.{Float, nan, lt, is_nan}
 use Rattle.measures.specs.Bar.{Bar, body_of}
 use Rattle.measures.specs.Window.{newest, window_of}
 use Rattle.measures.proofs.WindowLaws.{window-reach}
@@ -17,7 +19,12 @@ use Rattle.rule_types.specs.declared.label.Label.{Label, TheVariants.Other}
 use Rattle.rule_types.specs.declared.label.Pair.{Pair}
 use Rattle.rule_types.specs.Label.{code_of, pair_of, pair_a}
 use Rattle.growing_rules.specs.GrowingRule.{size_label, first_match, three_methods, san_fa_v20221118, tower, ta_xing, insert_of, bodies_down, bodies_up, last_but_one, bodies_known}
-use Rattle.growing_rules.specs.SearchSteps.{leaders_of, body_joined}
+use Rattle.growing_rules.specs.SearchSteps.{two_of, leaders_of, body_joined}
+
+-- only one label has the code 0
+pub other-code : (l : Label) → code_of l ≡ 0 → l ≡ Other
+other-code Other h = refl
+other-code l h = grind arith
 
 -- ---- the search, a size more: what was found stands; where nothing was, the window of that size decides
 
@@ -121,9 +128,36 @@ insert-second x (a ∷ l) = go (lt x a)
     go true = insert-first x l
     go false = refl
 
-pub leaders-grow : (b : Bar) (s : List Bar) → leaders_of (b ∷ s) ≡ body_joined (body_of b) (leaders_of s)
-unfolding leaders_of body_joined bodies_down bodies_known
-leaders-grow b s = simp (insert-first (body_of b) (bodies_down s), insert-second (body_of b) (bodies_down s))
+pub two-grow : (b : Bar) (s : List Bar) → two_of (b ∷ s) ≡ body_joined (body_of b) (two_of s)
+unfolding two_of body_joined bodies_down
+two-grow b s = simp (insert-first (body_of b) (bodies_down s), insert-second (body_of b) (bodies_down s))
+
+-- a body that is NaN is one of every longer window
+known-drop : (k : ℕ) (s : List Bar) → bodies_known (drop k s) ≡ false → bodies_known s ≡ false
+unfolding bodies_known
+known-drop zero s h = h
+known-drop (suc k) [] h = h
+known-drop (suc k) (b ∷ s) h = rw (known-drop k s h) (and-false (not (is_nan (body_of b))))
+
+pub known-newest : (n : ℕ) (s : List Bar) → bodies_known (newest n s) ≡ false → bodies_known s ≡ false
+unfolding newest
+known-newest n s h = known-drop (length s - n) s h
+
+pub leads-some : (s : List Bar) (l : Leaders) → leaders_of s ≡ Some l → (bodies_known s ≡ true) × (l ≡ two_of s)
+unfolding leaders_of
+leads-some s l h = go (bodies_known s) refl h
+  where
+    go : (t : Bool) → bodies_known s ≡ t → cond t (Some (two_of s)) None ≡ Some l → (bodies_known s ≡ true) × (l ≡ two_of s)
+    go true e h = (e, grind arith)
+    go false e h = absurd (grind arith)
+
+pub leads-none : (s : List Bar) → leaders_of s ≡ None → bodies_known s ≡ false
+unfolding leaders_of
+leads-none s h = go (bodies_known s) refl h
+  where
+    go : (t : Bool) → bodies_known s ≡ t → cond t (Some (two_of s)) None ≡ None → bodies_known s ≡ false
+    go true e h = grind arith
+    go false e h = e
 
 -- the last but one in non-falling order is the second in non-rising order, which the scan carries
 last-but-one-turned : (l : List Float) (x y : Float) (r : List Float) → last_but_one (reverse_aux l (x ∷ y ∷ r)) ≡ last_but_one (x ∷ y ∷ r)
@@ -137,6 +171,6 @@ last-but-one-reversed [] = refl
 last-but-one-reversed (a ∷ []) = refl
 last-but-one-reversed (a ∷ b ∷ l) = last-but-one-turned l b a []
 
-pub last-but-one : (s : List Bar) → last_but_one (bodies_up s) ≡ (leaders_of s).second
-unfolding bodies_up leaders_of
+pub last-but-one : (s : List Bar) → last_but_one (bodies_up s) ≡ (two_of s).second
+unfolding bodies_up two_of
 last-but-one s = last-but-one-reversed (bodies_down s)

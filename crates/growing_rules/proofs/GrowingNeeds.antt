@@ -2,30 +2,29 @@
 -- Assumes nothing.
 use Prim.Native.Nat.{ℕ, zero, suc, ◌+◌, ◌-◌, ◌≤◌, min}
 use mathlib.Core.Path.{◌≡◌, refl, sym, ◌∙◌}
-use mathlib.Core.Bool.{Bool, true, false, ◌&&◌, and-false}
+use mathlib.Core.Bool.{Bool, true, false, ◌&&◌}
 use mathlib.Core.List.{List}
 use native.Mathlib.Omega.{arith}
 use native.Mathlib.Decide.{dec_le, dec_lt}
 use borrow.Author.Tests.{ltb-true, ltb-false}
 use lib.Dec.{ltb}
 use lib.ListN.{length}
-use lib.Ieee.{Float, lt, is_nan}
+use lib.Ieee.{lt, is_nan}
 use Rattle.measures.specs.Bar.{Bar}
 use Rattle.measures.specs.declared.folds.Column.TheVariants.{High, Low}
 use Rattle.measures.specs.Window.{window_of, back_of}
 use Rattle.measures.specs.Fold.{column_of, extremes_of}
 use Rattle.measures.proofs.Order.{max-second, min-second, both_ways}
 use Rattle.measures.proofs.FoldLaws.{known-highest, known-lowest}
-use Rattle.rule_types.specs.declared.label.Label.TheVariants.{Other}
-use Rattle.growing_rules.specs.declared.Ends.{Ends}
-use Rattle.growing_rules.specs.declared.Shape.{Shape, TheVariants.ThreeMethods, TheVariants.Tower}
+use Rattle.rule_types.specs.declared.label.Label.{Label, TheVariants.Other}
+use Rattle.growing_rules.specs.declared.Both.{Both}
 use Rattle.middles.specs.declared.Middle.{Middle}
 use Rattle.growing_rules.specs.GrowingRule.{first_match, inner_of}
 use Rattle.middles.specs.MiddleSteps.{middle_of, entered, middle_at}
-use Rattle.growing_rules.specs.SearchSteps.{check_of, may_rise, may_fall, may_be_top, may_be_bottom, may_be, beyond, no_match, found_of, searched_of}
+use Rattle.growing_rules.specs.SearchSteps.{beyond, no_match, found_of, searched_of}
 use Rattle.growing_rules.proofs.GrowingLaws.{match-miss, match-ends}
 use Rattle.middles.proofs.MiddleLaws.{first-at, last-at, at_next, at-end}
-use Rattle.growing_rules.proofs.ShapeLaws.{neither, no_label}
+use Rattle.growing_rules.proofs.ShapeLaws.{IsTest, sides, methods_test, tower_test}
 
 -- ---- a conjunction that fails
 
@@ -35,67 +34,32 @@ still-fails false t u implies h = refl
 still-fails true t true implies h = both_ways (implies refl) h
 still-fails true t false implies h = refl
 
--- and with it whatever needs both of its parts
-lacking : (a b : Bool) {t : Bool} → (a && b) ≡ false → (a ≡ false → t ≡ false) → (b ≡ false → t ≡ false) → t ≡ false
-lacking false b h f g = f refl
-lacking true b h f g = g h
+-- ---- what is found, by a test of the ends and the extremes
 
--- ---- a window needs a close beyond its middle
-
-module _ (first last : Bar) (m : Middle) (within : beyond last m ≡ false) where
-  abbrev o : Float
-  o = last.«open»
-
-  abbrev c : Float
-  c = last.close
-
-  sides : ((lt o c && lt m.highest c) ≡ false) × ((lt c o && lt c m.lowest) ≡ false)
-  unfolding beyond
-  sides = neither (lt o c && lt m.highest c) (lt c o && lt c m.lowest) within
-
-  no-rise : may_rise first last m ≡ false
-  unfolding may_rise
-  no-rise = lacking (lt o c) (lt m.highest c) sides.0 (λ e. simp e) (λ e. simp (e, and-false))
-
-  no-fall : may_fall first last m ≡ false
-  unfolding may_fall
-  no-fall = lacking (lt c o) (lt c m.lowest) sides.1 (λ e. simp e) (λ e. simp (e, and-false))
-
-  no_top : may_be_top first last m ≡ false
-  unfolding may_be_top
-  no_top = lacking (lt c o) (lt c m.lowest) sides.1 (λ e. simp (e, and-false)) (λ e. simp (e, and-false))
-
-  no-bottom : may_be_bottom first last m ≡ false
-  unfolding may_be_bottom
-  no-bottom = lacking (lt o c) (lt m.highest c) sides.0 (λ e. simp (e, and-false)) (λ e. simp (e, and-false))
-
-  no-shape : (shape : Shape) → may_be shape first last m ≡ false
-  no-shape ThreeMethods = simp (no-rise, no-fall)
-  no-shape Tower = simp (no_top, no-bottom)
-
--- a window without what the code tests has no label
-pub no-window : (shape : Shape) (w : List Bar) (n : ℕ) → 1 ≤ n → may_be shape (back_of w n) (back_of w 1) (middle_at w n) ≡ false → check_of shape (window_of w 1 n) ≡ Other
-unfolding middle_at
-no-window shape w n some unfit = no_label (window_of w 1 n) shape (rw (first-at w n, last-at w n some) unfit)
-
--- what is found in the windows of fewer than n bars is the search of as many sizes, up to the end of its shape
-pub found_at : (shape : Shape) (end : ℕ) (w : List Bar) (n k : ℕ) → min n end ≡ k → found_of shape end w n ≡ first_match (check_of shape) (k - 5) 5 w
+-- in the windows of fewer than n bars it is the search of as many sizes, up to the end
+pub found_at : (label_of : List Bar → Label) (end : ℕ) (w : List Bar) (n k : ℕ) → min n end ≡ k → found_of label_of end w n ≡ first_match label_of (k - 5) 5 w
 unfolding found_of
-found_at shape end w n k e = rw e
+found_at label_of end w n k e = rw e
 
 -- it stays where the window of n bars is not tried, or fails
-module _ (shape : Shape) (end : ℕ) (w : List Bar) (n : ℕ) (many : 5 ≤ n) where
-  pub found-stays : (ltb n end && may_be shape (back_of w n) (back_of w 1) (middle_at w n)) ≡ false → found_of shape end w (n + 1) ≡ found_of shape end w n
+module _ (label_of : List Bar → Label) (end : ℕ) (w : List Bar) (n : ℕ) (many : 5 ≤ n) (may : Bool) (none : may ≡ false → label_of (window_of w 1 n) ≡ Other) where
+  pub found-stays : (ltb n end && may) ≡ false → found_of label_of end w (n + 1) ≡ found_of label_of end w n
   found-stays unfit = go (ltb n end) refl unfit
     where
-      go : (t : Bool) → ltb n end ≡ t → (t && may_be shape (back_of w n) (back_of w 1) (middle_at w n)) ≡ false → found_of shape end w (n + 1) ≡ found_of shape end w n
+      go : (t : Bool) → ltb n end ≡ t → (t && may) ≡ false → found_of label_of end w (n + 1) ≡ found_of label_of end w n
       go false e h =
           let past = ltb-false n end e in
-          found_at shape end w (n + 1) end (omega (arith, past)) ∙ sym (found_at shape end w n end (omega (arith, past)))
+          found_at label_of end w (n + 1) end (omega (arith, past)) ∙ sym (found_at label_of end w n end (omega (arith, past)))
       go true e h =
           let before = ltb-true n end e in
-          rw (found_at shape end w (n + 1) (n + 1) (omega (arith, before)), found_at shape end w n n (omega (arith, before)))
-          (match-miss (check_of shape) w n many (rw (no-window shape w n (omega arith) h)))
+          rw (found_at label_of end w (n + 1) (n + 1) (omega (arith, before)), found_at label_of end w n n (omega (arith, before)))
+          (match-miss label_of w n many (rw (none h)))
+
+-- a window that fails its test has no label
+pub no-window : {may_be : Bar → Bar → Middle → Bool} {label_of : List Bar → Label} → IsTest may_be label_of → (w : List Bar) (n : ℕ) → 1 ≤ n
+    → may_be (back_of w n) (back_of w 1) (middle_at w n) ≡ false → label_of (window_of w 1 n) ≡ Other
+unfolding middle_at
+no-window test w n some unfit = test.no_label (window_of w 1 n) (rw (first-at w n, last-at w n some) unfit)
 
 -- ---- and a middle that it does not lie beyond, it does not lie beyond when a bar has entered
 
@@ -130,24 +94,26 @@ module _ (w : List Bar) (n : ℕ) (some : 2 ≤ n) (within : beyond (back_of w 1
   all-within zero = let e : n + 0 ≡ n = omega arith in rw e within
   all-within (suc i) = let e : n + suc i ≡ n + i + 1 = omega arith in rw e (next-within w (n + i) (omega arith) (all-within i))
 
-  no_more : (shape : Shape) (i : ℕ) → check_of shape (window_of w 1 (n + i)) ≡ Other
-  no_more shape i = no-window shape w (n + i) (omega arith) (no-shape (back_of w (n + i)) (back_of w 1) (middle_at w (n + i)) (all-within i) shape)
+  no_more : {may_be : Bar → Bar → Middle → Bool} {label_of : List Bar → Label} → IsTest may_be label_of → (i : ℕ) → label_of (window_of w 1 (n + i)) ≡ Other
+  no_more test i =
+      no-window test w (n + i) (omega arith) (test.fails_within (back_of w (n + i)) (back_of w 1) (middle_at w (n + i)) (all-within i))
 
 -- and the search is at its end
 module _ (w : List Bar) (n : ℕ) (many : 5 ≤ n) (few : n ≤ 10) (within : beyond (back_of w 1) (middle_at w n) ≡ false) where
-  found_all : (shape : Shape) (end : ℕ) → found_of shape end w n ≡ found_of shape end w 10
-  found_all shape end =
+  found_all : {may_be : Bar → Bar → Middle → Bool} {label_of : List Bar → Label} → IsTest may_be label_of → (end : ℕ) → found_of label_of end w n ≡ found_of label_of end w 10
+  found_all {label_of = label_of} test end =
       let d = min 10 end - n in
       elim (dec_le n end) [
-        | yes before ↦ (found_at shape end w n n (omega arith) ∙ sym (match-ends (check_of shape) w n many (no_more w n (omega arith) within shape) d) ∙ sym (found_at shape end w 10 (n + d) (omega arith)))
-        | no past ↦ (found_at shape end w n end (omega arith) ∙ sym (found_at shape end w 10 end (omega arith)))
+        | yes before ↦ (found_at label_of end w n n (omega arith) ∙ sym (match-ends label_of w n many (no_more w n (omega arith) within test) d) ∙ sym (found_at label_of end w 10 (n + d) (omega arith)))
+        | no past ↦ (found_at label_of end w n end (omega arith) ∙ sym (found_at label_of end w 10 end (omega arith)))
       ]
 
-  pub search-ends : (ends : Ends) → searched_of ends w n ≡ searched_of ends w 10
-  search-ends ends = rw (found_all ThreeMethods ends.methods, found_all Tower ends.tower)
+  pub search-ends : (ends : Both ℕ) → searched_of ends w n ≡ searched_of ends w 10
+  search-ends ends =
+      rw (found_all methods_test ends.methods, found_all tower_test ends.tower)
 
 -- nothing is found in the windows of fewer than 5 bars
-pub searched-none : (ends : Ends) (w : List Bar) → no_match ≡ searched_of ends w 5
+pub searched-none : (ends : Both ℕ) (w : List Bar) → no_match ≡ searched_of ends w 5
 unfolding found_of first_match
 searched-none ends w =
     let e1 : min 5 ends.methods - 5 ≡ 0 = omega arith in
@@ -155,5 +121,5 @@ searched-none ends w =
     rw (e1, e2)
 
 -- so where the newest close is not beyond the first middle, nothing is found
-pub no-growing : (ends : Ends) (w : List Bar) → beyond (back_of w 1) (middle_at w 5) ≡ false → no_match ≡ searched_of ends w 10
+pub no-growing : (ends : Both ℕ) (w : List Bar) → beyond (back_of w 1) (middle_at w 5) ≡ false → no_match ≡ searched_of ends w 10
 no-growing ends w within = searched-none ends w ∙ search-ends w 5 (omega arith) (omega arith) within ends

@@ -10,15 +10,15 @@ use Rattle.measures.specs.Price.{max_of, min_of}
 use Rattle.measures.specs.Fold.{column_of, highest_of, lowest_of, sum_of, size_of, variance_of, every_of, extremes_of}
 use Rattle.measures.proofs.Order.{lt-asym, known-left, known-right, max-both, min-both}
 use Rattle.measures.proofs.FoldLaws.{every-above, every-below}
+use Rattle.rule_types.specs.declared.label.Label.{Label}
 use Rattle.rule_types.specs.declared.label.Label.TheVariants.{Other, RisingThreeMethods, FallingThreeMethods, Bottom, Top}
 use Rattle.rule_types.specs.Number.{a_half}
-use Rattle.growing_rules.specs.declared.Shape.{Shape, TheVariants.ThreeMethods, TheVariants.Tower}
 use Rattle.middles.specs.declared.Middle.{Middle}
 use Rattle.growing_rules.specs.GrowingRule.{first_of, last_of, inner_of, rises_of, falls_of, three_methods, ends_lead, top_of, bottom_of, tower}
 use Rattle.middles.specs.MiddleSteps.{middle_of}
-use Rattle.growing_rules.specs.SearchSteps.{check_of, may_rise, may_fall, may_be_top, may_be_bottom, may_be}
+use Rattle.growing_rules.specs.SearchSteps.{may_rise, may_fall, may_be_top, may_be_bottom, may_be_methods, may_be_tower, beyond}
 
-pub neither : (a b : Bool) → (a || b) ≡ false → (a ≡ false) × (b ≡ false)
+neither : (a b : Bool) → (a || b) ≡ false → (a ≡ false) × (b ≡ false)
 neither false b h = (refl, h)
 neither true b h = absurd (true≢false h)
 
@@ -118,16 +118,16 @@ module _ (s : List Bar) where
       (λ down up. beside-variance Low (λ s. every_of (λ x. lt x (min_of f.«open» l.close)) (column_of High s)) (λ s. (middle_of s).highs && (lt (middle_of s).highest f.«open» && lt (middle_of s).highest l.close))
       (highs-below f.«open» l.close (known-right f.close f.«open» down) (known-right l.«open» l.close up)) mid)
 
-  abbrev may : Shape → Bool
-  may shape = may_be shape f l (middle_of mid)
-
   -- where the test fails, the window has no label
-  pub no_label : (shape : Shape) → may shape ≡ false → check_of shape s ≡ Other
-  unfolding three_methods tower
-  no_label ThreeMethods unfit =
+  no-methods-label : may_be_methods f l (middle_of mid) ≡ false → three_methods s ≡ Other
+  unfolding three_methods
+  no-methods-label unfit =
       let e = neither (may_rise f l (middle_of mid)) (may_fall f l (middle_of mid)) unfit in
       simp (rises_by, falls-by, e.0, e.1)
-  no_label Tower unfit =
+
+  no-tower-label : may_be_tower f l (middle_of mid) ≡ false → tower s ≡ Other
+  unfolding tower
+  no-tower-label unfit =
       let e = neither (may_be_top f l (middle_of mid)) (may_be_bottom f l (middle_of mid)) unfit in
       simp (top-by, bottom-by, e.0, e.1)
 
@@ -138,27 +138,79 @@ module _ (s : List Bar) where
 
   -- where it passes, the newest bar's side says which label is left
   module _ (up : lt l.«open» l.close ≡ true) where
-    pub methods-up : may ThreeMethods ≡ true → three_methods s ≡ cond (lt (highest_of (column_of Close mid)) f.close) RisingThreeMethods Other
+    pub methods-up : may_be_methods f l (middle_of mid) ≡ true → three_methods s ≡ cond (lt (highest_of (column_of Close mid)) f.close) RisingThreeMethods Other
     unfolding three_methods
     methods-up fit =
         let rise : may_rise f l (middle_of mid) ≡ true = simp (no-fall-up f l (middle_of mid) up, or-false) at fit in
         simp (rises_by, falls-by, rise, no-fall-up f l (middle_of mid) up)
 
-    pub tower-up : may Tower ≡ true → tower s ≡ cond (ends_lead s && lt (variance_of (column_of Low mid)) a_half) Bottom Other
+    pub tower-up : may_be_tower f l (middle_of mid) ≡ true → tower s ≡ cond (ends_lead s && lt (variance_of (column_of Low mid)) a_half) Bottom Other
     unfolding tower
     tower-up fit =
         let bottom : may_be_bottom f l (middle_of mid) ≡ true = simp (no-top-up f l (middle_of mid) up) at fit in
         simp (top-by, bottom-by, bottom, no-top-up f l (middle_of mid) up)
 
   module _ (down : lt l.«open» l.close ≡ false) where
-    pub methods-down : may ThreeMethods ≡ true → three_methods s ≡ cond (lt f.close (lowest_of (column_of Close mid))) FallingThreeMethods Other
+    pub methods-down : may_be_methods f l (middle_of mid) ≡ true → three_methods s ≡ cond (lt f.close (lowest_of (column_of Close mid))) FallingThreeMethods Other
     unfolding three_methods
     methods-down fit =
         let fall : may_fall f l (middle_of mid) ≡ true = simp (no-rise-down f l (middle_of mid) down) at fit in
         simp (rises_by, falls-by, fall, no-rise-down f l (middle_of mid) down)
 
-    pub tower-down : may Tower ≡ true → tower s ≡ cond (ends_lead s && lt (variance_of (column_of High mid)) a_half) Top Other
+    pub tower-down : may_be_tower f l (middle_of mid) ≡ true → tower s ≡ cond (ends_lead s && lt (variance_of (column_of High mid)) a_half) Top Other
     unfolding tower
     tower-down fit =
         let top : may_be_top f l (middle_of mid) ≡ true = simp (no-bottom-down f l (middle_of mid) down, or-false) at fit in
         simp (top-by, bottom-by, top, no-bottom-down f l (middle_of mid) down)
+
+-- with a conjunction that fails fails whatever needs both of its parts
+lacking : (a b : Bool) {t : Bool} → (a && b) ≡ false → (a ≡ false → t ≡ false) → (b ≡ false → t ≡ false) → t ≡ false
+lacking false b h f g = f refl
+lacking true b h f g = g h
+
+-- ---- a window needs a close beyond its middle
+
+module _ (first last : Bar) (m : Middle) (within : beyond last m ≡ false) where
+  abbrev o : Float
+  o = last.«open»
+
+  abbrev c : Float
+  c = last.close
+
+  pub sides : ((lt o c && lt m.highest c) ≡ false) × ((lt c o && lt c m.lowest) ≡ false)
+  unfolding beyond
+  sides = neither (lt o c && lt m.highest c) (lt c o && lt c m.lowest) within
+
+  no-rise : may_rise first last m ≡ false
+  unfolding may_rise
+  no-rise = lacking (lt o c) (lt m.highest c) sides.0 (λ e. simp e) (λ e. simp (e, and-false))
+
+  no-fall : may_fall first last m ≡ false
+  unfolding may_fall
+  no-fall = lacking (lt c o) (lt c m.lowest) sides.1 (λ e. simp e) (λ e. simp (e, and-false))
+
+  no_top : may_be_top first last m ≡ false
+  unfolding may_be_top
+  no_top = lacking (lt c o) (lt c m.lowest) sides.1 (λ e. simp (e, and-false)) (λ e. simp (e, and-false))
+
+  no-bottom : may_be_bottom first last m ≡ false
+  unfolding may_be_bottom
+  no-bottom = lacking (lt o c) (lt m.highest c) sides.0 (λ e. simp (e, and-false)) (λ e. simp (e, and-false))
+
+  pub no-methods : may_be_methods first last m ≡ false
+  no-methods = simp (no-rise, no-fall)
+
+  pub no-tower-shape : may_be_tower first last m ≡ false
+  no-tower-shape = simp (no_top, no-bottom)
+
+-- ---- what a test of the ends and the extremes tells of the label: where it fails there is none, and it fails where the close is not beyond
+
+pub record IsTest (may_be : Bar → Bar → Middle → Bool) (label_of : List Bar → Label) : Type 0 where
+  pub no_label : (s : List Bar) → may_be (first_of s) (last_of s) (middle_of (inner_of s)) ≡ false → label_of s ≡ Other
+  pub fails_within : (first last : Bar) (m : Middle) → beyond last m ≡ false → may_be first last m ≡ false
+
+pub methods_test : IsTest may_be_methods three_methods
+methods_test = record { no_label = no-methods-label; fails_within = no-methods }
+
+pub tower_test : IsTest may_be_tower tower
+tower_test = record { no_label = no-tower-label; fails_within = no-tower-shape }

@@ -10,7 +10,7 @@ use Rattle.measures.specs.Window.{window_of}
 use Rattle.measures.specs.Fold.{column_of, highest_of, lowest_of, variance_of, every_of}
 use Rattle.rule_types.specs.declared.label.{Label.Label, Pair.Pair}
 use Rattle.rule_types.specs.declared.label.Label.TheVariants.{Other, RisingThreeMethods, FallingThreeMethods, Bars5, Bars6, Bars7, Bars8, Bars9, Bottom, Top}
-use Rattle.growing_rules.specs.declared.Growing.{Growing}
+use Rattle.growing_rules.specs.declared.Both.{Both}
 use Rattle.rule_types.specs.Label.{code_of, pair_of, pair_a}
 use Rattle.rule_types.specs.Number.{a_half}
 unfoldable pub use Rattle.middles.specs.Part.{first_of, last_of, inner_of}
@@ -124,5 +124,5 @@ unfoldable pub ta_xing : List Bar → Pair
 ta_xing w = first_match tower 5 5 w
 
 -- ---- both at once, as a row of all recognisers has them
-abbrev pub growing_of : List Bar → Growing
+abbrev pub growing_of : List Bar → Both Pair
 growing_of w = record { methods = san_fa_v20221118 w; tower = ta_xing w }

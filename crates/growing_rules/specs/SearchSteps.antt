@@ -1,12 +1,12 @@
--- 02, P2: what the code asks of the extremes of a window's middle, and what its scan of 17's bodies carries. No public promise cites this file:
+-- 02, P2: what the code asks of the extremes of a window's middle, and what its scan of 17's bodies carries and gives. No public promise cites this file:
 -- those of 4 and 17 are in GrowingRule.
-use Rattle.std.specs.Prelude.{ℕ, ◌-◌, min, Bool, cond, not, ◌&&◌, ◌||◌, get_or, List, Float}
+use Rattle.std.specs.Prelude.{ℕ, ◌-◌, min, Bool, cond, ◌&&◌, ◌||◌, get_or, List, Option, Some, None, Float}
 use Rattle.std.specs.Float.{nan}
-use Rattle.std.specs.Float.Ieee.{lt, is_nan}
+use Rattle.std.specs.Float.Ieee.{lt}
 use Rattle.measures.specs.Bar.{Bar}
 use Rattle.rule_types.specs.declared.label.{Label.Label, Pair.Pair}
 use Rattle.rule_types.specs.Label.{pair_a}
-use Rattle.growing_rules.specs.declared.{Ends.Ends, Growing.Growing, Leaders.Leaders, Shape.Shape, Shape.TheVariants.ThreeMethods, Shape.TheVariants.Tower}
+use Rattle.growing_rules.specs.declared.{Both.Both, Leaders.Leaders}
 use Rattle.middles.specs.declared.Middle.{Middle}
 use Rattle.growing_rules.specs.GrowingRule.{first_match, three_methods, bodies_down, bodies_known, tower}
 
@@ -34,9 +34,11 @@ may_be_bottom first last m =
     lt first.close first.«open» && lt last.«open» last.close
     && m.highs && lt m.highest first.«open» && lt m.highest last.close
 
-abbrev pub may_be : Shape → Bar → Bar → Middle → Bool
-may_be ThreeMethods first last m = may_rise first last m || may_fall first last m
-may_be Tower first last m = may_be_top first last m || may_be_bottom first last m
+abbrev pub may_be_methods : Bar → Bar → Middle → Bool
+may_be_methods first last m = may_rise first last m || may_fall first last m
+
+abbrev pub may_be_tower : Bar → Bar → Middle → Bool
+may_be_tower first last m = may_be_top first last m || may_be_bottom first last m
 
 -- ---- the search
 
@@ -46,30 +48,27 @@ unfoldable pub beyond : Bar → Middle → Bool
 beyond last m = lt last.«open» last.close && lt m.highest last.close || lt last.close last.«open» && lt last.close m.lowest
 
 -- nothing is found
-abbrev pub no_match : Growing
+abbrev pub no_match : Both Pair
 no_match = record { methods = pair_a; tower = pair_a }
 
--- what a window is tried for
-abbrev pub check_of : Shape → List Bar → Label
-check_of ThreeMethods = three_methods
-check_of Tower = tower
+-- what is found in the windows of fewer than n bars, and of fewer than an end
+unfoldable pub found_of : (List Bar → Label) → ℕ → List Bar → ℕ → Pair
+found_of label_of end w n = first_match label_of (min n end - 5) 5 w
 
--- what is found of a shape in the windows of fewer than n bars, and of fewer than its end
-unfoldable pub found_of : Shape → ℕ → List Bar → ℕ → Pair
-found_of shape end w n = first_match (check_of shape) (min n end - 5) 5 w
+abbrev pub searched_of : Both ℕ → List Bar → ℕ → Both Pair
+searched_of ends w n = record { methods = found_of three_methods ends.methods w n; tower = found_of tower ends.tower w n }
 
-abbrev pub searched_of : Ends → List Bar → ℕ → Growing
-searched_of ends w n = record { methods = found_of ThreeMethods ends.methods w n; tower = found_of Tower ends.tower w n }
+-- ---- what the scan of the bodies carries: the two greatest, NaN where there is none; it gives none where a body is NaN
 
--- ---- what the scan of the bodies carries: the two greatest, NaN where there is none, and whether no body is NaN
+unfoldable pub two_of : List Bar → Leaders
+two_of s = record { first = get_or (bodies_down s) 0 nan; second = get_or (bodies_down s) 1 nan }
 
-unfoldable pub leaders_of : List Bar → Leaders
-leaders_of s = record { first = get_or (bodies_down s) 0 nan; second = get_or (bodies_down s) 1 nan; known = bodies_known s }
+unfoldable pub leaders_of : List Bar → Option Leaders
+leaders_of s = cond (bodies_known s) (Some (two_of s)) None
 
 -- an older bar's body x comes in front
 unfoldable pub body_joined : Float → Leaders → Leaders
 body_joined x l = record {
   first = cond (lt x l.first) l.first x;
   second = cond (lt x l.first) (cond (lt x l.second) l.second x) l.first;
-  known = not (is_nan x) && l.known;
 }

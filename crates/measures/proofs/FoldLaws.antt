@@ -1,26 +1,31 @@
--- Folds over a column: one turn of a loop; an extreme that runs along, of runs that meet, and what it says of every price. Assumes nothing.
-use Rattle.std.proofs.Common.{◌≡◌, ℕ, ◌+◌, ◌<◌, ◌≤◌, Bool, true, false, cond, not, ◌&&◌, List, [], ◌∷◌, ◌++◌, length, get_or, drop, sym, refl, ap, ◌∙◌, true≢false}
+-- Folds over a column: of a chain, of one bar more; an extreme that runs along, of runs that meet, and what it says of every price. Assumes nothing.
+use Rattle.std.proofs.Common.{◌≡◌, ℕ, ◌+◌, ◌<◌, Bool, true, false, cond, not, ◌&&◌, List, [], ◌∷◌, ◌++◌, length, get_or, take, sym, refl, ap, ◌∙◌, true≢false}
 use mathlib.Core.Bool.{and-true, and-false}
-use mathlib.Core.List.{foldl, foldr, foldl-append}
+use mathlib.Core.List.{foldl, foldr, map, map-append, foldl-append}
+use Rattle.std.specs.List.{fold}
+use Rattle.std.proofs.lemmas.List.{take_more}
 use lib.Ieee.{Float, nan, inf, fin, lt, is_nan}
 use Rattle.prices.specs.declared.bars.Bar.{Bar}
 use Rattle.measures.specs.declared.folds.Column.{Column}
+use Rattle.measures.specs.declared.folds.Column.TheVariants.{High, Low}
+use Rattle.measures.specs.declared.folds.Extremes.{Extremes}
 use Rattle.prices.specs.Price.{max_of, min_of}
-use Rattle.prices.specs.Bar.{no_bar}
-use Rattle.measures.specs.Fold.{price_of, column_of, highest_of, lowest_of, every_of}
+use Rattle.measures.specs.Bar.{bar_of_four}
+use Rattle.measures.specs.Fold.{price_of, column_of, highest_of, lowest_of, every_of, extremes_of}
 use Rattle.prices.proofs.Order.{lt-nan, is-nan, max_assoc, min_assoc, max-known, min-known, max-both, min-both}
-use Rattle.windows.proofs.RunLaws.{from-bar, past-bars}
 
--- one turn: what is left to fold from the i-th bar on, its price taken in; and the end, where nothing is left
-module _ (f : Float → Float → Float) (c : Column) (bars : List Bar) (i : ℕ) where
-  pub turn : (x : Float) → i < length bars
-      → foldl f (f x (price_of c (get_or bars i no_bar))) (column_of c (drop (i + 1) bars)) ≡ foldl f x (column_of c (drop i bars))
-  unfolding column_of
-  turn x h = rw (from-bar bars i h)
+-- a fold over the column of a run that is cut into bars, in std's word
+pub fold-bars : (f : Float → Float → Float) (c : Column) (start : Float) (fours : List (List Float))
+    → fold f start (map (λ four. price_of c (bar_of_four four)) fours) ≡ foldl f start (column_of c (map bar_of_four fours))
+unfolding column_of
+fold-bars f c start [] = refl
+fold-bars f c start (four ∷ fours) = fold-bars f c (f start (price_of c (bar_of_four four))) fours
 
-  pub turned : (x : Float) → length bars ≤ i → foldl f x (column_of c (drop i bars)) ≡ x
+-- one bar more
+module _ (f : Float → Float → Float) (c : Column) (start : Float) where
+  pub fold-later : (bars : List Bar) (b : Bar) → foldl f start (column_of c (bars ++ (b ∷ []))) ≡ f (foldl f start (column_of c bars)) (price_of c b)
   unfolding column_of
-  turned x h = rw (past-bars bars i h)
+  fold-later bars b = rw (map-append (price_of c) bars (b ∷ []), foldl-append f start (map (price_of c) bars) (price_of c b ∷ [])) refl
 
 -- from a value that is no NaN one comparison is enough
 pub max-of-known : (a b : Float) → is_nan a ≡ false → cond (lt a b) b a ≡ max_of a b
@@ -202,3 +207,24 @@ every-below = told lt max_of (inf true) highest-extreme
 pub every-above : (z x : Float) (xs : List Float) → every_of (λ y. lt z y) (x ∷ xs) ≡ (every_of (λ y. not (is_nan y)) (x ∷ xs) && lt z (lowest_of (x ∷ xs)))
 unfolding lowest_of
 every-above = told (λ x y. lt y x) min_of (inf false) lowest-extreme
+
+-- ---- the extremes of a run as bars are read
+
+pub extremes-none : record { highest = inf true; lowest = inf false } ≡ extremes_of []
+unfolding extremes_of highest_of lowest_of column_of
+extremes-none = refl
+
+-- one bar more enters by one comparison a price
+pub extremes-newer : (bars : List Bar) (b : Bar)
+    → (let e = extremes_of bars in record { highest = cond (lt e.highest b.high) b.high e.highest; lowest = cond (lt b.low e.lowest) b.low e.lowest }) ≡ extremes_of (bars ++ (b ∷ []))
+unfolding extremes_of highest_of lowest_of
+extremes-newer bars b =
+    rw (fold-later max_of High (inf true) bars b, fold-later min_of Low (inf false) bars b)
+    (rw (max-of-known _ b.high (known-highest (column_of High bars)), min-of-known _ b.low (known-lowest (column_of Low bars))) refl)
+
+-- the i-th bar of a run that is cut into bars
+pub extremes-later : (fours : List (List Float)) (i : ℕ) (e : Extremes) → i < length fours → e ≡ extremes_of (map bar_of_four (take i fours))
+    → (let b = bar_of_four (get_or fours i []) in record { highest = cond (lt e.highest b.high) b.high e.highest; lowest = cond (lt b.low e.lowest) b.low e.lowest }) ≡ extremes_of (map bar_of_four (take (i + 1) fours))
+extremes-later fours i e h so_far =
+    let last = get_or fours i [] in
+    rw (so_far, take_more fours i [] h, map-append bar_of_four (take i fours) (last ∷ [])) (extremes-newer (map bar_of_four (take i fours)) (bar_of_four last))

@@ -4,7 +4,7 @@ use mathlib.Core.List.{foldl}
 use Rattle.std.specs.Float.{binary64, inf}
 use Rattle.std.specs.Float.Ieee.{of_int, add, sub, mul, div, le}
 use Rattle.prices.specs.declared.bars.Bar.{Bar}
-use Rattle.measures.specs.declared.folds.{Column.Column, Fold.Fold, Fold.TheVariants.Highest, Fold.TheVariants.Lowest, Fold.TheVariants.Sum, Fold.TheVariants.Squares, Extremes.Extremes}
+use Rattle.measures.specs.declared.folds.{Column.Column, Extremes.Extremes}
 use Rattle.measures.specs.declared.folds.Column.TheVariants.{Open, Close, High, Low}
 use Rattle.prices.specs.Price.{zero, a_quarter, max_of, min_of, square_of}
 
@@ -28,13 +28,6 @@ lowest_of xs = foldl min_of (inf false) xs
 
 unfoldable pub sum_of : List Float → Float
 sum_of xs = foldl (add binary64) zero xs
-
--- what one step of the code's folds makes of what it has and the next price
-abbrev pub fold_step : Fold → Float → Float → Float
-fold_step Highest x y = max_of x y
-fold_step Lowest x y = min_of x y
-fold_step Sum x y = add binary64 x y
-fold_step (Squares mean) x y = add binary64 x (square_of (sub binary64 y mean))
 
 -- ---- variance: mean of squares about the mean, sums from the oldest
 

@@ -1,31 +1,31 @@
 // Bars of lent prices. Only this module reads and writes the four prices of a bar.
-ghost use Rattle.std.specs.Prelude.{◌≡◌, ◌+◌, ◌<◌, ◌≤◌, length, slice_index_or};
-ghost use Rattle.prices.specs.Bar.{bar_from, bars_of, no_bar, put_bar};
+ghost use Rattle.std.specs.Prelude.{◌≡◌, slice_index_or, map};
+ghost use Rattle.prices.specs.Bar.{bars_of, no_bar, put_bar};
+ghost use Rattle.measures.specs.Bar.{bar_of_four};
 ghost use Rattle.windows.specs.Window.{back_of};
 
 use prices::bars::Bar;
 use prices::price;
-use windows::{count, least};
+use windows::count;
 
-// The bar whose four prices begin at a place of a run.
-fn bar_from(prices: &[f64], at: usize) -> Bar
-    requires { at + 4 ≤ length prices.now }
-    ensures { result ≡ bar_from prices.now at }
+// The bars of a run, four prices each; prices at its end that make no whole bar are passed over.
+pub(crate) fn bars_in(prices: &[f64]) -> &[[f64; 4]]
+    ensures { map bar_of_four result.now ≡ bars_of prices.now }
 {
-    Bar {
-        open: prices[at],
-        close: prices[at + 1],
-        high: prices[at + 2],
-        low: prices[at + 3],
-    }
+    prices.as_chunks().0
 }
 
-// The i-th bar of a run.
-pub(crate) fn bar_at(prices: &[f64], i: usize) -> Bar
-    requires { i < length (bars_of prices.now) }
-    ensures { result ≡ slice_index_or (bars_of prices.now) i no_bar }
+// The bar with these prices.
+pub(crate) fn bar_from(four: &[f64; 4]) -> Bar
+    ensures { result ≡ bar_of_four four.now }
 {
-    bar_from(prices, i * 4)
+    let [open, close, high, low] = *four;
+    Bar {
+        open,
+        close,
+        high,
+        low,
+    }
 }
 
 // The prices of a bar go into a run as those of its i-th bar, if there is room.
@@ -34,10 +34,7 @@ pub fn put_bar(bar: Bar, out: &mut [f64], i: usize)
 {
     if i < out.len() / 4 {
         let at = 4 * i;
-        out[at] = bar.open;
-        out[at + 1] = bar.close;
-        out[at + 2] = bar.high;
-        out[at + 3] = bar.low;
+        out[at..at + 4].copy_from_slice(&[bar.open, bar.close, bar.high, bar.low]);
     }
 }
 
@@ -58,10 +55,9 @@ fn no_bar() -> Bar
 pub fn bar_or_none(prices: &[f64], i: usize) -> Bar
     ensures { result ≡ slice_index_or (bars_of prices.now) i no_bar }
 {
-    if i < count(prices) {
-        bar_at(prices, i)
-    } else {
-        no_bar()
+    match bars_in(prices).get(i) {
+        Some(four) => bar_from(four),
+        None => no_bar(),
     }
 }
 
@@ -69,6 +65,5 @@ pub fn bar_or_none(prices: &[f64], i: usize) -> Bar
 pub fn back(prices: &[f64], i: usize) -> Bar
     ensures { result ≡ back_of (bars_of prices.now) i }
 {
-    let len = count(prices);
-    bar_or_none(prices, len - least(i, len))
+    bar_or_none(prices, count(prices).saturating_sub(i))
 }

@@ -1,21 +1,20 @@
 -- The middle as the window grows: the bars between the ends of each size, and their extremes when an older bar enters. Assumes nothing.
 use Prim.Native.Nat.{ℕ, ◌+◌, ◌-◌, ◌<◌, ◌≤◌, min}
 use mathlib.Core.Path.{◌≡◌, refl, sym, ◌∙◌}
-use mathlib.Core.Bool.{Bool, true, false, cond}
+use mathlib.Core.Bool.{Bool, true, false, cond, not, ◌&&◌, and-true, and_assoc}
 use borrow.Author.Tests.{ltb-true, ltb-false}
 use lib.Dec.{ltb}
-use mathlib.Core.List.{List, [], ◌∷◌}
+use mathlib.Core.List.{List, [], ◌∷◌, ◌++◌, map, map-append}
 use native.Mathlib.Omega.{arith}
 use native.Mathlib.Decide.{dec_le}
 use lib.ListN.{length, take}
-use lib.Ieee.{Float, inf, is_nan, lt}
+use lib.Ieee.{Float, is_nan, lt}
 use lib.Seq.{take-length, get_or-take, length-take-le}
 use Rattle.measures.specs.Bar.{Bar, no_bar}
 use Rattle.measures.specs.declared.folds.Column.TheVariants.{High, Low}
 use Rattle.measures.specs.Window.{up_to, newest, window_of, back_of}
-use Rattle.measures.specs.Fold.{column_of, highest_of, lowest_of, every_of, extremes_of}
-use Rattle.measures.proofs.FoldLaws.{highest-grows, lowest-grows, max-of-known, min-of-known}
-use Rattle.measures.proofs.Order.{max-stays-known, min-stays-known}
+use Rattle.measures.specs.Fold.{price_of, column_of, every_of, extremes_of}
+use Rattle.measures.proofs.FoldLaws.{highest-grows, lowest-grows, extremes-newer}
 use Rattle.measures.proofs.WindowLaws.{up_to-in, up_to-one, length-window, newest-more, newest-none, back-newest, window-reach, all-of-it}
 use Rattle.middles.specs.Part.{first_of, last_of, inner_of}
 use Rattle.middles.specs.MiddleSteps.{middle_of, entered, grown_by, middle_at}
@@ -130,19 +129,23 @@ at-grown w n some = go (ltb n (length w)) refl
     go true e = sym (at_next w n some (ltb-true n (length w) e))
     go false e = sym (at-end w n (ltb-false n (length w) e))
 
--- ---- three bars from the oldest, by one comparison a price, since no extreme is NaN
+-- ---- from the oldest, by one comparison a price
 
-pub top-of-three : (x y z : Float) → let a = cond (lt (inf true) x) x (inf true) in let b = cond (lt a y) y a in cond (lt b z) z b ≡ highest_of (x ∷ y ∷ z ∷ [])
-unfolding highest_of is_nan
-top-of-three x y z =
-    let first = max-stays-known (inf true) x refl in
-    rw (max-of-known (inf true) x refl, max-of-known _ y first, max-of-known _ z (max-stays-known _ y first))
+every-newer : (t : Float → Bool) (xs : List Float) (x : Float) → every_of t (xs ++ (x ∷ [])) ≡ (every_of t xs && t x)
+unfolding every_of
+every-newer t [] x = and-true (t x)
+every-newer t (y ∷ ys) x = rw (every-newer t ys x) (sym (and_assoc (t y) (every_of t ys) (t x)))
 
-pub bottom-of-three : (x y z : Float) → let a = cond (lt x (inf false)) x (inf false) in let b = cond (lt y a) y a in cond (lt z b) z b ≡ lowest_of (x ∷ y ∷ z ∷ [])
-unfolding lowest_of is_nan
-bottom-of-three x y z =
-    let first = min-stays-known (inf false) x refl in
-    rw (min-of-known (inf false) x refl, min-of-known _ y first, min-of-known _ z (min-stays-known _ y first))
+pub middle-newer : (mid : List Bar) (b : Bar)
+    → (let m = middle_of mid in record {
+      highest = cond (lt m.highest b.high) b.high m.highest;
+      lowest = cond (lt b.low m.lowest) b.low m.lowest;
+      highs = m.highs && not (is_nan b.high);
+      lows = m.lows && not (is_nan b.low);
+    }) ≡ middle_of (mid ++ (b ∷ []))
+unfolding middle_of column_of
+middle-newer mid b =
+    rw (← extremes-newer mid b, map-append (price_of High) mid (b ∷ []), map-append (price_of Low) mid (b ∷ []), every-newer _ (map (price_of High) mid) b.high, every-newer _ (map (price_of Low) mid) b.low) refl
 
 pub three-at : (w : List Bar) → 5 ≤ length w → middle_of (back_of w 4 ∷ back_of w 3 ∷ back_of w 2 ∷ []) ≡ middle_at w 5
 three-at w long =

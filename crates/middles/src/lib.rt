@@ -2,13 +2,14 @@
 // assumed, and no public function has a `requires`: each contract is an equation with a definition of specs/, for every input.
 #![tactic(auto)]
 
-ghost use Rattle.std.specs.Prelude.{◌≡◌, [], ◌∷◌};
-ghost use Rattle.measures.specs.Bar.{bars_of};
+ghost use Rattle.std.specs.Prelude.{◌≡◌, List, [], ◌∷◌, ◌++◌};
+ghost use Rattle.measures.specs.Bar.{Bar, bars_of};
 ghost use Rattle.middles.specs.MiddleSteps.{middle_of, entered, grown_by, middle_at};
 
 use measures::Bar;
 
-// The highest high and the lowest low, which pass NaN over, and whether no high, no low is NaN.
+// The highest high and the lowest low, which pass NaN over, and whether no high, no low is NaN. Flags and no Option: some rules read the
+// extremes whatever the flags say.
 #[derive(Clone, Copy)]
 pub struct Middle {
     pub highest: f64,
@@ -51,27 +52,19 @@ pub fn grow(m: Middle, w: &[f64], n: usize) -> Middle
     }
 }
 
-// The middle of three bars, from the oldest: its extremes are never NaN, so that one comparison a price is enough.
-fn middle_of_three(old: Bar, between: Bar, new: Bar) -> Middle
-    ensures { result ≡ middle_of (old ∷ between ∷ new ∷ []) }
+// A newer bar enters the middle of some bars: no extreme is ever NaN, so that one comparison a price is enough.
+fn enter_newer(m: Middle, b: Bar) -> Middle
+    ensures { (mid : List Bar) → m ≡ middle_of mid → result ≡ middle_of (mid ++ (b ∷ [])) }
 {
-    let mut top = measures::price::minus_infinity();
-    let mut bottom = measures::price::plus_infinity();
-    top = measures::pick(old.high > top, old.high, top);
-    bottom = measures::pick(old.low < bottom, old.low, bottom);
-    top = measures::pick(between.high > top, between.high, top);
-    bottom = measures::pick(between.low < bottom, between.low, bottom);
     Middle {
-        highest: measures::pick(new.high > top, new.high, top),
-        lowest: measures::pick(new.low < bottom, new.low, bottom),
-        highs: !measures::is_nan(old.high)
-            & (!measures::is_nan(between.high) & !measures::is_nan(new.high)),
-        lows: !measures::is_nan(old.low)
-            & (!measures::is_nan(between.low) & !measures::is_nan(new.low)),
+        highest: measures::pick(b.high > m.highest, b.high, m.highest),
+        lowest: measures::pick(b.low < m.lowest, b.low, m.lowest),
+        highs: m.highs & !measures::is_nan(b.high),
+        lows: m.lows & !measures::is_nan(b.low),
     }
 }
 
-// The middle of the first window that is tried. Of fewer than five bars those between the ends enter one by one.
+// The middle of the first window that is tried. Of five bars or more those between the ends enter from the oldest, each by fewer comparisons.
 pub fn first_middle(w: &[f64]) -> Middle
     ensures { result ≡ middle_at (bars_of w.now) 5 }
 {
@@ -80,10 +73,8 @@ pub fn first_middle(w: &[f64]) -> Middle
         let one = grow(none, w, 2);
         grow(one, w, 3)
     } else {
-        middle_of_three(
-            measures::back(w, 4),
-            measures::back(w, 3),
-            measures::back(w, 2),
-        )
+        let one = enter_newer(no_middle(), measures::back(w, 4));
+        let two = enter_newer(one, measures::back(w, 3));
+        enter_newer(two, measures::back(w, 2))
     }
 }

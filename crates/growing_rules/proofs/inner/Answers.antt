@@ -7,6 +7,6 @@ unfolding inner_of
 returns c =
     simp (
       c.last_bars.ensures.bars,
-      c.minus.ensures,
+      c.saturating_sub.ensures,
       c.count.ensures,
     )

@@ -6,7 +6,6 @@ pub returns : goal.returns
 unfolding body_joined
 returns c =
     simp (
-      c.is_nan.ensures,
       c.pick-3.ensures,
       c.pick-2.ensures,
       c.pick.ensures,

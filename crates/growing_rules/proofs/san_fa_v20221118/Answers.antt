@@ -1,22 +1,8 @@
--- Where the newest close is not beyond the first middle, the search would find nothing. Assumes nothing.
-use mathlib.Core.Path.{ap, ◌∙◌}
-use Rattle.measures.specs.Bar.{bars_of}
-use Rattle.growing_rules.specs.declared.Growing.{Growing}
+-- The search up to this rule's end is the rule. Assumes nothing.
 use Rattle.growing_rules.specs.GrowingRule.{san_fa_v20221118}
 use Rattle.growing_rules.specs.SearchSteps.{found_of}
-use Rattle.growing_rules.proofs.GrowingNeeds.{no-growing}
 use Rattle.growing_rules.proofs.san_fa_v20221118.Goals as goal
 
-pub search-found-requires : goal.search-found-requires
-search-found-requires c = c.first_middle-m.ensures
-
-pub returns-then-beyond : goal.returns-then-beyond
+pub returns : goal.returns
 unfolding san_fa_v20221118 found_of
-returns-then-beyond c = rw c.search-found.ensures
-
-pub returns-else-beyond : goal.returns-else-beyond
-unfolding san_fa_v20221118 found_of
-returns-else-beyond c =
-    let within = rw (c.is_beyond-beyond.ensures, c.back.ensures, c.first_middle-m.ensures) at c.if-beyond.false in
-    let none = no-growing (record { methods = 9; tower = 0 }) (bars_of c.args.w.now) within in
-    c.pair_a.ensures ∙ ap (λ (g : Growing). g.methods) none
+returns c = rw c.found_in.ensures

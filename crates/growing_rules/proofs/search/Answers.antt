@@ -9,33 +9,24 @@ use Rattle.growing_rules.proofs.search.Goals as goal
 
 pub loop-n-init : goal.loop-n-init
 loop-n-init c =
-    (omega arith, omega arith, c.requires, c.no_match-found.ensures ∙ searched-none c.args.ends (bars_of c.args.w.now))
+    (omega arith, c.requires, c.no_match-found.ensures ∙ searched-none c.args.ends (bars_of c.args.w.now))
 
-pub try_window-found-requires : goal.try_window-found-requires
-try_window-found-requires c = let now = c.loop-n in (omega arith, omega arith, now.invariant.3, now.invariant.2)
-
-pub overflow_add-n : goal.overflow_add-n
-overflow_add-n c = omega arith
-
-pub returns-then-not-beyond : goal.returns-then-not-beyond
-returns-then-not-beyond c =
+pub returns-then-not-is_beyond : goal.returns-then-not-is_beyond
+returns-then-not-is_beyond c =
     let a = c.args in
     let w = bars_of a.w.now in
     let now = c.loop-n in
-    let unmet = rw (c.is_beyond-beyond.ensures, c.back-last.ensures, c.grow-m.ensures, now.invariant.2, at-grown w now.n (omega arith)) at c.if-not-beyond.true in
+    let unmet = rw (c.is_beyond.ensures, c.back-last.ensures, c.grow-m.ensures, now.invariant.1, at-grown w now.n (omega arith)) at c.if-not-is_beyond.true in
     c.try_window-found.ensures ∙ search-ends w (now.n + 1) (omega arith) (omega arith) (unmet) a.ends
-
-pub loop-n-smaller : goal.loop-n-smaller
-loop-n-smaller c = omega arith
 
 pub loop-n-preserved : goal.loop-n-preserved
 loop-n-preserved c =
     let now = c.loop-n in
     let w = bars_of c.args.w.now in
-    (omega arith, omega arith, rw (c.grow-m.ensures, now.invariant.2, at-grown w now.n (omega arith)), c.try_window-found.ensures)
+    (omega arith, rw (c.grow-m.ensures, now.invariant.1, at-grown w now.n (omega arith)), c.try_window-found.ensures)
 
 pub returns : goal.returns
 returns c =
     let now = c.loop-n in
     let e : now.n ≡ 10 = omega arith in
-    now.invariant.3 ∙ rw e
+    now.invariant.2 ∙ rw e

@@ -1,4 +1,4 @@
-use Prim.Native.Nat.{◌-◌, ◌≤◌}
+use Prim.Native.Nat.{◌≤◌}
 use mathlib.Core.Path.{◌≡◌}
 use Rattle.measures.specs.Bar.{bars_of}
 use Rattle.middles.specs.MiddleSteps.{middle_at}
@@ -6,7 +6,4 @@ use Rattle.growing_rules.specs.SearchSteps.{searched_of}
 use Rattle.growing_rules.proofs.search.Given as goal
 
 abbrev pub invariant-loop-n : goal.invariant-loop-n
-invariant-loop-n l = (5 ≤ l.n) × (l.n ≤ 10) × (l.m ≡ middle_at (bars_of l.w) l.n) × (l.found ≡ searched_of l.ends (bars_of l.w) l.n)
-
-abbrev pub decreases-loop-n : goal.decreases-loop-n
-decreases-loop-n l = 10 - l.n
+invariant-loop-n l = (5 ≤ l.n) × (l.m ≡ middle_at (bars_of l.w) l.n) × (l.found ≡ searched_of l.ends (bars_of l.w) l.n)

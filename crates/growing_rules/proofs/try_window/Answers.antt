@@ -1,13 +1,17 @@
--- Each recogniser's test is of the window's ends and its middle's extremes. Assumes nothing.
+-- Each shape's test is of the window's ends and its middle's extremes, and a window that fails it has no label. Assumes nothing.
+use mathlib.Core.Path.{sym, ◌∙◌}
+use native.Mathlib.Omega.{arith}
+use Rattle.measures.specs.Bar.{bars_of}
+use Rattle.growing_rules.proofs.GrowingNeeds.{no-window}
+use Rattle.growing_rules.proofs.ShapeLaws.{methods_test, tower_test}
 use Rattle.growing_rules.proofs.try_window.Goals as goal
 
-pub methods_at-methods-requires : goal.methods_at-methods-requires
-methods_at-methods-requires c =
-    (c.requires.0, c.requires.1, rw c.requires.2, simp (c.may_be_methods-may_be_four.ensures, c.back-last.ensures, c.back-first.ensures, c.requires.3))
+pub found_with-methods-requires : goal.found_with-methods-requires
+found_with-methods-requires c =
+    let is = rw (c.back-last.ensures, c.back-first.ensures, c.requires.3) at c.may_be-may_be_four.ensures in
+    (c.requires.0, c.requires.1, rw c.requires.2, is, λ unfit. no-window methods_test (bars_of c.args.w.now) c.args.n (omega arith) (sym is ∙ unfit))
 
-pub tower_at-tower-requires : goal.tower_at-tower-requires
-tower_at-tower-requires c =
-    (c.requires.0, c.requires.1, rw c.requires.2, simp (c.may_be_tower-may_be_seventeen.ensures, c.back-last.ensures, c.back-first.ensures, c.requires.3))
-
-pub returns : goal.returns
-returns c = rw (c.tower_at-tower.ensures, c.methods_at-methods.ensures)
+pub found_with-tower-requires : goal.found_with-tower-requires
+found_with-tower-requires c =
+    let is = rw (c.back-last.ensures, c.back-first.ensures, c.requires.3) at c.may_be-may_be_seventeen.ensures in
+    (c.requires.0, c.requires.1, rw c.requires.2, is, λ unfit. no-window tower_test (bars_of c.args.w.now) c.args.n (omega arith) (sym is ∙ unfit))

@@ -1,5 +1,6 @@
--- From a window of two bars, which has no middle, those that there are enter; three are folded at once. Assumes nothing.
-use mathlib.Core.Path.{sym}
+-- From a window of two bars, which has no middle, those that there are enter; three enter from the oldest. Assumes nothing.
+use mathlib.Core.Path.{sym, ◌∙◌}
+use mathlib.Core.List.{[], ◌∷◌}
 use native.Mathlib.Omega.{arith}
 use Rattle.measures.specs.Bar.{bars_of}
 use Rattle.middles.proofs.MiddleLaws.{at-two, at-end, at-grown, three-at}
@@ -13,4 +14,9 @@ returns-then-count-lt5 c =
 pub returns-else-count-lt5 : goal.returns-else-count-lt5
 returns-else-count-lt5 c =
     let w = bars_of c.args.w.now in
-    rw (c.middle_of_three.ensures, c.back-else-count-lt5-2.ensures, c.back-else-count-lt5.ensures, c.back.ensures) (three-at w (omega arith))
+    let oldest = c.back.result in
+    let next = c.back-else-count-lt5.result in
+    let one = c.enter_newer-one.ensures [] c.no_middle.ensures in
+    let two = c.enter_newer-two.ensures (oldest ∷ []) one in
+    c.enter_newer.ensures (oldest ∷ next ∷ []) two
+    ∙ rw (c.back.ensures, c.back-else-count-lt5.ensures, c.back-else-count-lt5-2.ensures) (three-at w (omega arith))

@@ -1,7 +1,7 @@
 -- The newest bar's side leaves one of the two. Assumes nothing.
 use mathlib.Core.Bool.{or-false}
 use Rattle.growing_rules.proofs.ShapeLaws.{no-fall-up, no-rise-down}
-use Rattle.growing_rules.proofs.may_be_methods.Goals as goal
+use Rattle.growing_rules.proofs.ThreeMethodsShape.may_be.Goals as goal
 
 pub returns-then-last : goal.returns-then-last
 returns-then-last c =

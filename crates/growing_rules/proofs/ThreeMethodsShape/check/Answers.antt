@@ -2,7 +2,7 @@
 use mathlib.Core.Path.{sym}
 use Rattle.measures.specs.Bar.{bars_of}
 use Rattle.growing_rules.proofs.ShapeLaws.{methods-up, methods-down}
-use Rattle.growing_rules.proofs.three_methods.Goals as goal
+use Rattle.growing_rules.proofs.ThreeMethodsShape.check.Goals as goal
 
 pub returns-then-last : goal.returns-then-last
 returns-then-last c =

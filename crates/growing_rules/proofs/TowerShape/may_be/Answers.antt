@@ -1,7 +1,7 @@
 -- The newest bar's side leaves one of the two. Assumes nothing.
 use mathlib.Core.Bool.{or-false}
 use Rattle.growing_rules.proofs.ShapeLaws.{no-top-up, no-bottom-down}
-use Rattle.growing_rules.proofs.may_be_tower.Goals as goal
+use Rattle.growing_rules.proofs.TowerShape.may_be.Goals as goal
 
 pub returns-then-last : goal.returns-then-last
 returns-then-last c =
