@@ -6,7 +6,7 @@ use Rattle.measures.specs.Bar.{bars_of}
 use Rattle.growing_rules.proofs.GrowingLaws.{san-fa-near, ta-xing-near}
 use Rattle.rule_types.specs.Number.{recognisers}
 use Rattle.rule_table.specs.Table.{table_row, rows, seen_of}
-use Rattle.rule_table.proofs.TableLaws.{rule-past, apart_from}
+use Rattle.rule_table.proofs.TableLaws.{rule-past}
 use Rattle.rule_table.proofs.table.rule.Goals as goal
 
 pub returns-in-2 : goal.returns-in-2
