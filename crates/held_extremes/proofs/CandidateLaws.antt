@@ -1,37 +1,17 @@
 -- The candidates' laws, once for the highest and the lowest: the first one's price is 01's fold; and what one bar more leaves. Assumes nothing.
 use Prim.Native.Nat.{ℕ, suc, ◌+◌, ◌-◌, ◌<◌, ◌≤◌}
 use mathlib.Core.Path.{◌≡◌, refl, sym, ap, subst, ◌∙◌}
-use mathlib.Core.Bool.{Bool, true, false, cond, not, ◌&&◌, ◌||◌, and-true, and-false}
+use mathlib.Core.Bool.{Bool, true, false, cond, not, ◌&&◌, ◌||◌, and-true}
 use mathlib.Core.List.{List, [], ◌∷◌, foldl}
 use native.Mathlib.Omega.{arith}
 use lib.ListN.{length, get_or}
-use lib.Ieee.{Float, nan, inf, fin, lt, is_nan}
+use lib.Ieee.{Float, nan, inf, lt, is_nan}
 use Rattle.measures.specs.Price.{max_of, min_of}
 use Rattle.measures.specs.Fold.{highest_of, lowest_of, every_of}
-use Rattle.measures.proofs.Order.{lt-nan, lt-asym, lt-split, is-nan, both_ways}
+use Rattle.measures.proofs.Order.{is-nan, both_ways}
 use Rattle.measures.proofs.FoldLaws.{highest-grows, lowest-grows, known-highest, known-lowest}
 use Rattle.held_extremes.specs.Candidate.{greater, smaller, stays, candidates}
-
--- ---- what both orders have in common
-
-pub record Way (beyond : Float → Float → Bool) : Type 0 where
-  pub asym : (x y : Float) → beyond x y ≡ true → beyond y x ≡ false
-  pub split : (x y z : Float) → is_nan y ≡ false → beyond x z ≡ true → beyond x y ≡ false → beyond y z ≡ true
-  pub nan_right : (x : Float) → beyond x nan ≡ false
-
-back-split : (x y z : Float) → is_nan y ≡ false → lt z x ≡ true → lt y x ≡ false → lt z y ≡ true
-back-split x y z k h g = go (lt z y) refl
-  where
-    go : (t : Bool) → lt z y ≡ t → t ≡ true
-    go true e = refl
-    go false e = both_ways (lt-split z y x k h e) g
-
-pub rising : Way greater
-rising = record { asym = lt-asym; split = lt-split; nan_right = lt-nan }
-
-pub falling : Way smaller
-unfolding lt
-falling = record { asym = λ x y h. lt-asym y x h; split = back-split; nan_right = λ x. refl }
+pub use Rattle.held_extremes.specs.Sides.{Way, SideLaws, rising, falling}
 
 -- ---- a value that tells of prices whether any is beyond a price: the foremost of them
 
@@ -62,11 +42,10 @@ module _ (beyond : Float → Float → Bool) (o : Way beyond) where
 -- ---- 01's folds
 
 pub record Extreme (beyond : Float → Float → Bool) (f : Float → Float → Float) (start : Float) : Type 0 where
-  pub way : Way beyond
+  pub laws : SideLaws beyond start
   pub grows : (x : Float) (xs : List Float) → foldl f start (x ∷ xs) ≡ f x (foldl f start xs)
   pub chooses : (a b : Float) → is_nan b ≡ false → f a b ≡ cond (is_nan a || beyond a b) b a
   pub known : (xs : List Float) → is_nan (foldl f start xs) ≡ false
-  pub none : (x : Float) → beyond x start ≡ false
 
 -- the price of the first candidate of prices that follow n others; without candidates the fold's infinity
 abbrev pub first_price : Float → ℕ → List Float → List ℕ → Float
@@ -116,14 +95,14 @@ module _ (beyond : Float → Float → Bool) (f : Float → Float → Float) (st
   tells_more y r ys known told = go (is_nan y) refl (beyond y r) refl
     where
       go : (t : Bool) → is_nan y ≡ t → (u : Bool) → beyond y r ≡ u → Tells beyond (cond (t || u) r y) (y ∷ ys)
-      go true h u g = tells-old beyond e.way y r ys known (rw (is-nan y h) (e.way.nan_right r)) told
-      go false h true g = tells-old beyond e.way y r ys known (e.way.asym y r g) told
-      go false h false g = tells-new beyond e.way y r ys h g told
+      go true h u g = tells-old beyond e.laws.way y r ys known (rw (is-nan y h) (e.laws.way.nan_right r)) told
+      go false h true g = tells-old beyond e.laws.way y r ys known (e.laws.way.asym y r g) told
+      go false h false g = tells-new beyond e.laws.way y r ys h g told
 
   -- so the fold tells whether any price is beyond one
   tells-fold : (xs : List Float) → Tells beyond (foldl f start xs) xs
   unfolding every_of
-  tells-fold [] = λ x. sym (ap not (e.none x))
+  tells-fold [] = λ x. sym (ap not (e.laws.none x))
   tells-fold (y ∷ ys) =
       let r = foldl f start ys in
       subst (λ (z : Float). Tells beyond z (y ∷ ys)) (sym (e.grows y ys ∙ e.chooses y r (e.known ys))) (tells_more y r ys (e.known ys) (tells-fold ys))
@@ -160,25 +139,13 @@ min-chooses : (a b : Float) → is_nan b ≡ false → min_of a b ≡ cond (is_n
 unfolding min_of
 min-chooses a b h = simp (h, and-true)
 
-none_above : (x : Float) → lt x (inf true) ≡ false
-unfolding lt
-none_above nan = refl
-none_above (inf s) = and-false s
-none_above (fin s m e) = refl
-
-none_below : (x : Float) → lt (inf false) x ≡ false
-unfolding lt
-none_below nan = refl
-none_below (inf s) = refl
-none_below (fin s m e) = refl
-
 pub highest : Extreme greater max_of (inf true)
 unfolding highest_of
-highest = record { way = rising; grows = highest-grows; chooses = max-chooses; known = known-highest; none = none_above }
+highest = record { laws = rising; grows = highest-grows; chooses = max-chooses; known = known-highest }
 
 pub lowest : Extreme smaller min_of (inf false)
 unfolding lowest_of
-lowest = record { way = falling; grows = lowest-grows; chooses = min-chooses; known = known-lowest; none = none_below }
+lowest = record { laws = falling; grows = lowest-grows; chooses = min-chooses; known = known-lowest }
 
 pub first-is-highest : (n : ℕ) (xs : List Float) → first_price (inf true) n xs (candidates greater n xs) ≡ highest_of xs
 unfolding highest_of

@@ -16,7 +16,6 @@ use Rattle.measures.specs.Fold.{price_of, column_of, extremes_of}
 use Rattle.measures.specs.Window.{newest, window_of}
 use Rattle.measures.proofs.WindowLaws.{up_to-one, newest-again}
 use Rattle.rule_types.specs.Number.{quarter_bars}
-use Rattle.held_extremes.specs.declared.HeldExtremes.{HeldExtremes}
 use Rattle.held_extremes.specs.Candidate.{greater, smaller, candidates, placed, held_by, held_of, extremes_in}
 use Rattle.held_extremes.specs.CandidateSteps.{bar_with, price_with, held_from}
 use Rattle.held_extremes.proofs.CandidateLaws.{first_price, Among, among, first-is-highest, first-is-lowest}
@@ -34,6 +33,9 @@ newest-few m bars few = let none : length bars - m ≡ 0 = omega arith in rw non
 pub window-newest : (bars : List Bar) (n : ℕ) → window_of bars 1 n ≡ newest n bars
 unfolding window_of
 window-newest bars n = rw (up_to-one (length bars), take-length bars)
+
+pub window-few : (bars w : List Bar) → w ≡ window_of bars 1 quarter_bars → length w ≤ quarter_bars
+window-few bars w is = rw (is, window-newest bars quarter_bars) (omega (arith, length-newest quarter_bars bars))
 
 -- what is held reaches back 20 bars
 pub held-near : (n m : ℕ) (bars : List Bar) → quarter_bars ≤ m → held_of n (newest m bars) ≡ held_of n bars
@@ -101,21 +103,6 @@ module _ (c : Column) (none : Float) (beyond : Float → Float → Bool) (n : �
 
   placed-near : (bars : List Bar) → length bars ≤ n → newest quarter_bars bars ≡ w → price_with c none (n - length bars) bars (get_or (placed os) 0 0) ≡ price_with c none (n - length w) w (get_or (placed os) 0 0)
   placed-near bars few is = rw (first-place os (quarter_bars - length os)) (rw is at (first-near c none n quarter_bars bars few (n - length w + length (column_of c w)) os (rw is os-among)))
-
--- what the code makes of places
-pub by-places : (before : ℕ) (bars : List Bar) (highest lowest : Float) (tops bottoms highs lows : List ℕ)
-    → highest ≡ price_with High (inf true) before bars (get_or tops 0 0)
-    → lowest ≡ price_with Low (inf false) before bars (get_or bottoms 0 0)
-    → tops ≡ highs
-    → bottoms ≡ lows
-    → ◌≡◌ {A = HeldExtremes} (record { highest = highest; lowest = lowest; highs = tops; lows = bottoms }) (held_from before bars highs lows)
-by-places before bars highest lowest tops bottoms highs lows a b e f =
-    λ i. record {
-      highest = (a ∙ ap (λ (l : List ℕ). price_with High (inf true) before bars (get_or l 0 0)) e) i;
-      lowest = (b ∙ ap (λ (l : List ℕ). price_with Low (inf false) before bars (get_or l 0 0)) f) i;
-      highs = e i;
-      lows = f i;
-    }
 
 -- so the first place gives the value: the price of its bar, or the infinity if it is empty
 pub window-first : (n : ℕ) (w : List Bar) → held_from (n - length w) w (held_by n w).highs (held_by n w).lows ≡ held_by n w

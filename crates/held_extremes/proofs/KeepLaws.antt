@@ -1,71 +1,56 @@
--- One bar more, in the code: the loop that keeps places, what is laid over empty places, and the side by a flag. Assumes nothing.
+-- One bar more, in the code: the places that are kept, and the new bar behind them. Once for both sides. Assumes nothing.
 use Prim.Native.Nat.{ℕ, zero, suc, ◌+◌, ◌-◌, ◌<◌, ◌≤◌}
 use mathlib.Core.Path.{◌≡◌, refl, sym, ap, ◌∙◌}
-use mathlib.Core.Bool.{Bool, true, false, cond}
+use mathlib.Core.Bool.{Bool, true, false, cond, not}
 use mathlib.Core.List.{List, [], ◌∷◌, ◌++◌, append_assoc, append-nil}
 use native.Mathlib.Omega.{arith}
-use native.Mathlib.Numerals.{add-one}
-use lib.Dec.{eqb}
-use lib.ListN.{length, get_or, take, drop, set, replicate, length-take, length-drop, drop_of_length-le}
-use lib.Seq.{take-suc, drop-cons, drop-nil, get_or-take, get_or-drop, length-take-le}
+use lib.Dec.{eqb, ltb}
+use lib.ListN.{length, get_or, take, drop, set, replicate, length-take, length-append}
+use lib.Seq.{drop-nil, set_at, length-take-le}
 use lib.Ieee.{Float, is_nan}
-use Rattle.measures.specs.Bar.{Bar, overlay}
+use Rattle.measures.specs.Bar.{Bar}
+use Rattle.measures.specs.declared.folds.Column.{Column}
 use Rattle.measures.specs.Fold.{price_of}
 use Rattle.measures.specs.Window.{back_of}
-use Rattle.measures.proofs.Overlay.{overlay-next, overlay-copy}
 use Rattle.held_extremes.specs.Candidate.{placed}
-use Rattle.held_extremes.specs.CandidateSteps.{beyond_for, column_for, bar_price, left_of, is_room, room_for, entered, next_ordinals}
+use Rattle.std.specs.Prelude.{position, unwrap_or, Some, None}
+use Rattle.std.specs.List.{position_or_len}
+use borrow.Author.Tests.{ltb-false}
+use Rattle.held_extremes.specs.CandidateSteps.{bar_price, left_of, is_room, room_for, entered, next_ordinals}
 use Rattle.rule_types.specs.Number.{quarter_bars}
 
--- the places from one on that the loop goes through
-abbrev pub left : List ℕ → ℕ → List ℕ
-left c from = take (quarter_bars - 1) (drop from c)
-
+-- the places that make no room, up to the first that does, as the code counts them
 module _ (beyond : Float → Float → Bool) (y : Float) (price : ℕ → Float) where
-  -- the places passed make no room, so that what is kept is decided by those that are left
-  abbrev pub Passed : List ℕ → ℕ → Type 0
-  Passed os i = room_for beyond y price os ≡ take i os ++ room_for beyond y price (drop i os)
+  abbrev kept : List ℕ → ℕ
+  kept os = position_or_len (is_room beyond y price) os
 
-  none_passed : (os : List ℕ) (i : ℕ) → room_for beyond y price (drop i os) ≡ [] → Passed os i → room_for beyond y price os ≡ take i os
-  none_passed os i none passed = passed ∙ rw none (append-nil (take i os))
+  kept-few : (os : List ℕ) → kept os ≤ length os
+  kept-few [] = omega arith
+  kept-few (o ∷ os) = go (is_room beyond y price o) (kept-few os)
+    where
+      go : (t : Bool) → kept os ≤ length os → cond (not t) (1 + kept os) 0 ≤ suc (length os)
+      go true h = omega arith
+      go false h = omega arith
 
-  one-passed : (os : List ℕ) (i : ℕ) → i < length os → is_room beyond y price (get_or os i 0) ≡ false → Passed os i → Passed os (i + 1)
+  room-taken : (os : List ℕ) → room_for beyond y price os ≡ take (kept os) os
   unfolding room_for
-  one-passed os i h none passed =
-      passed ∙ rw (drop-cons os i 0 h, none, add-one i, take-suc os i 0 h) (sym (append_assoc (take i os) (get_or os i 0 ∷ []) (room_for beyond y price (drop (suc i) os))))
+  room-taken [] = refl
+  room-taken (o ∷ os) = go (is_room beyond y price o) (room-taken os)
+    where
+      go : (t : Bool) → room_for beyond y price os ≡ take (kept os) os → cond t [] (o ∷ room_for beyond y price os) ≡ take (cond (not t) (1 + kept os) 0) (o ∷ os)
+      go true h = refl
+      go false h = let e : 1 + kept os ≡ suc (kept os) = omega arith in rw e (ap (λ (l : List ℕ). o ∷ l) h)
 
-  -- ---- the loop: the places left are laid over others
+  counted : (os : List ℕ) → unwrap_or (position (is_room beyond y price) os) (length os) ≡ kept os
+  counted os = go (ltb (kept os) (length os)) refl
+    where
+      go : (t : Bool) → ltb (kept os) (length os) ≡ t → unwrap_or (cond t (Some (kept os)) None) (length os) ≡ kept os
+      go true e = refl
+      go false e = omega (arith, ltb-false (kept os) (length os) e, kept-few os)
 
-  module _ (c : List ℕ) (from : ℕ) (small : from ≤ 1) (size : length c ≡ quarter_bars) (was out : List ℕ) (i : ℕ) (laid : out ≡ overlay was 0 (take i (left c from))) (passed : Passed (left c from) i) where
-    length-left : length (left c from) ≡ quarter_bars - 1
-    length-left = rw (length-take, length-drop) (omega arith)
-
-    left_at : i < quarter_bars - 1 → get_or (left c from) i 0 ≡ get_or c (from + i) 0
-    left_at h = get_or-take (quarter_bars - 1) (drop from c) i 0 h ∙ get_or-drop from c i 0
-
-    -- it ends
-    kept : i ≤ quarter_bars - 1 → room_for beyond y price (drop i (left c from)) ≡ []
-        → (i ≡ length (room_for beyond y price (left c from))) × (i < quarter_bars) × (out ≡ overlay was 0 (room_for beyond y price (left c from)))
-    kept h none = rw (none_passed (left c from) i none passed) (sym (length-take-le i (left c from) (omega (arith, length-left))), omega arith, laid)
-
-    pub room-ends : (t : Bool) → i < quarter_bars - 1 → t ≡ is_room beyond y price (get_or c (from + i) 0) → t ≡ true
-        → (i ≡ length (room_for beyond y price (left c from))) × (i < quarter_bars) × (out ≡ overlay was 0 (room_for beyond y price (left c from)))
-    unfolding room_for
-    room-ends t h e is = kept (omega arith) (rw (drop-cons (left c from) i 0 (omega (arith, length-left)), left_at h, ← e, is))
-
-    pub all_pass : i ≤ quarter_bars - 1 → quarter_bars - 1 ≤ i
-        → (i ≡ length (room_for beyond y price (left c from))) × (i < quarter_bars) × (out ≡ overlay was 0 (room_for beyond y price (left c from)))
-    unfolding room_for
-    all_pass h g = let past : length (left c from) ≤ i = omega (arith, length-left) in kept h (rw (drop_of_length-le (left c from) past))
-
-    -- it goes on
-    pub one_passes : (t : Bool) → i < quarter_bars - 1 → length was ≡ quarter_bars → t ≡ is_room beyond y price (get_or c (from + i) 0) → t ≡ false
-        → (set out i (get_or c (from + i) 0) ≡ overlay was 0 (take (i + 1) (left c from))) × Passed (left c from) (i + 1)
-    one_passes t h all e none =
-        let there : i < length (left c from) = omega (arith, length-left) in (
-          rw (laid, ← left_at h) (overlay-copy was 0 (left c from) i i 0 (omega arith) there (omega arith)),
-          one-passed (left c from) i there (rw (left_at h) (sym e ∙ none)) passed,
-        )
+  pub room-first : (os : List ℕ) (k : ℕ) → k ≡ unwrap_or (position (is_room beyond y price) os) (length os)
+      → (room_for beyond y price os ≡ take k os) × (k ≤ length os)
+  room-first os k e = rw (e, counted os) (room-taken os, kept-few os)
 
 -- the places without the bar that falls out
 left-drop : (oldest : ℕ) (places : List ℕ) → left_of oldest places ≡ drop (cond (eqb (get_or places 0 0) oldest) 1 0) places
@@ -76,36 +61,33 @@ left-drop oldest (o ∷ os) = go (eqb o oldest)
     go true = refl
     go false = refl
 
-pub skips-one : (t : Bool) (r : ℕ) → r ≡ cond t 1 0 → r ≤ 1
-skips-one true r e = omega arith
-skips-one false r e = omega arith
-
--- the price of a side
-side-price : (high : Bool) (b : Bar) → cond high b.high b.low ≡ price_of (column_for high) b
-side-price true b = refl
-side-price false b = refl
-
--- the new bar behind what is kept
-pub next-laid : (was out all room : List ℕ) (y : Float) (r last : ℕ) → r ≡ length room → r < length was → out ≡ overlay was 0 room
-    → all ≡ cond (is_nan y) out (set out r last) → all ≡ overlay was 0 (room ++ entered y last)
-next-laid was out all room y r last e less laid is = is ∙ rw laid (go (is_nan y))
-  where
-    go : (t : Bool) → cond t (overlay was 0 room) (set (overlay was 0 room) r last) ≡ overlay was 0 (room ++ cond t [] (last ∷ []))
-    go true = ap (overlay was 0) (sym (append-nil room))
-    go false = overlay-next was 0 room last r (omega arith) less
-
-pub next-from : (high : Bool) (before last : ℕ) (bars : List Bar) (places : List ℕ) (y : Float) (from : ℕ)
-    → y ≡ cond high (back_of bars 1).high (back_of bars 1).low
-    → from ≡ cond (eqb (get_or places 0 0) (last - quarter_bars)) 1 0
-    → room_for (beyond_for high) y (bar_price (column_for high) before bars) (take (quarter_bars - 1) (drop from places)) ++ entered y last
-    ≡ next_ordinals (beyond_for high) (column_for high) before last bars places
-next-from high before last bars places y from e f = rw (e, side-price high (back_of bars 1), f, left-drop (last - quarter_bars) places)
-
--- what is laid over empty places is placed
+-- zeros behind what is kept
 drop-zeros : (m n : ℕ) → drop {A = ℕ} n (replicate m 0) ≡ replicate (m - n) 0
 drop-zeros m zero = let all : m - 0 ≡ m = omega arith in rw all
 drop-zeros zero (suc n) = let none : 0 - suc n ≡ 0 = omega arith in rw none
 drop-zeros (suc m) (suc n) = let less : suc m - suc n ≡ m - n = omega arith in rw less (drop-zeros m n)
 
-pub over_zeros : (os : List ℕ) → overlay (replicate quarter_bars 0) 0 os ≡ placed os
-over_zeros os = let e : 0 + length os ≡ length os = omega arith in rw e (ap (λ (l : List ℕ). os ++ l) (drop-zeros quarter_bars (length os)))
+-- the new bar behind what is kept
+entered-placed : (room : List ℕ) (k last : ℕ) (y : Float) → length room ≡ k → k < quarter_bars
+    → cond (is_nan y) (room ++ replicate (quarter_bars - k) 0) (set (room ++ replicate (quarter_bars - k) 0) k last) ≡ placed (room ++ entered y last)
+entered-placed room k last y size less = go (is_nan y)
+  where
+    one : quarter_bars - k ≡ suc (quarter_bars - (k + 1))
+    one = omega arith
+
+    go : (t : Bool) → cond t (room ++ replicate (quarter_bars - k) 0) (set (room ++ replicate (quarter_bars - k) 0) k last) ≡ placed (room ++ cond t [] (last ∷ []))
+    go true = rw (append-nil room, size)
+    go false = rw (one, set_at room 0 (replicate (quarter_bars - (k + 1)) 0) last k size, length-append, size) (sym (append_assoc room (last ∷ []) (replicate (quarter_bars - (k + 1)) 0)))
+
+module _ (beyond : Float → Float → Bool) (c : Column) (before last : ℕ) (bars : List Bar) (held : List ℕ) (full : length held ≡ quarter_bars) where
+  pub next-places : (y : Float) (from k : ℕ) (copied out : List ℕ) → y ≡ price_of c (back_of bars 1) → from ≡ cond (eqb (get_or held 0 0) (last - quarter_bars)) 1 0
+      → (let left = take (quarter_bars - 1) (drop from held) in
+      k ≡ unwrap_or (position (is_room beyond y (bar_price c before bars)) left) (length left) → copied ≡ take k left
+      → out ≡ cond (is_nan y) (copied ++ drop k (replicate quarter_bars 0)) (set (copied ++ drop k (replicate quarter_bars 0)) k last) → out ≡ placed (next_ordinals beyond c before last bars held))
+  next-places y from k copied out price start count copy put =
+      let left = take (quarter_bars - 1) (drop from held) in
+      let room = room-first beyond y (bar_price c before bars) left k count in
+      let few : length left ≤ quarter_bars - 1 = rw length-take (omega arith) in
+      let size : length (take k left) ≡ k = length-take-le k left room.1 in
+      let rest : left_of (last - quarter_bars) held ≡ drop from held = left-drop (last - quarter_bars) held ∙ rw start in
+      put ∙ rw (copy, drop-zeros quarter_bars k) (entered-placed (take k left) k last y size (omega (arith, room.1, few)) ∙ rw (rest, ← price, room.0))

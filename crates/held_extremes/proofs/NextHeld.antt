@@ -114,5 +114,5 @@ module _ (beyond : Float → Float → Bool) (o : Way beyond) (c : Column) (n : 
 pub next-held : (n : ℕ) (bars : List Bar) (x : Bar) → length bars ≤ n → next_held (held_of n bars) (n + 1) (bars ++ (x ∷ [])) ≡ held_of (n + 1) (bars ++ (x ∷ []))
 unfolding next_held held_of
 next-held n bars x few =
-    rw (next-candidates greater rising High n bars few x, next-candidates smaller falling Low n bars few x)
+    rw (next-candidates greater rising.way High n bars few x, next-candidates smaller falling.way Low n bars few x)
     (held_first (n + 1) (bars ++ (x ∷ [])) (rw length-append (omega arith)))

@@ -1,18 +1,18 @@
 -- The test of what a box holds: what its bars give passes it, and nothing else does. Assumes nothing.
 use Prim.Native.Nat.{ℕ, ◌*◌}
 use mathlib.Core.Path.{◌≡◌, refl, sym, ap, subst, ◌∙◌}
-use mathlib.Core.Bool.{Bool, true, false, ◌&&◌, and-eq-true_iff, true≢false, false≢true}
+use mathlib.Core.Bool.{Bool, true, false, ◌&&◌, and-eq-true_iff, true≢false}
 use mathlib.Core.List.{List, [], ◌∷◌}
 use borrow.Author.Tests.{eq-eqb, eqb-true}
 use lib.Dec.{T, eqb}
 use lib.Ieee.{Float, nan, inf, fin, binary64, up, down, level, eq, is_nan, fits, of_bits, to_bits}
 use lib.Ieee.Bits.{of_bits-to_bits}
+use Rattle.std.specs.Cmp.Lexicographic.{pointwise}
 use Rattle.measures.specs.Bar.{Bar}
 use Rattle.measures.specs.declared.folds.Column.TheVariants.{High, Low}
 use Rattle.measures.specs.Fold.{column_of, highest_of, lowest_of}
 use Rattle.measures.specs.Window.{newest}
 use Rattle.measures.proofs.FoldLaws.{known-highest, known-lowest}
-use Rattle.held_extremes.specs.declared.HeldExtremes.{HeldExtremes}
 use Rattle.held_extremes.specs.Candidate.{same_price, same_ordinals, same_held, held_of}
 
 -- ---- a known price equals itself
@@ -36,6 +36,14 @@ unfolding same_ordinals
 same-ordinals [] = refl
 same-ordinals (o ∷ os) = rw (eq-eqb o o refl) (same-ordinals os)
 
+-- as `==` of the code has it
+pub same-by : (a b : List ℕ) → pointwise eqb a b ≡ same_ordinals a b
+unfolding same_ordinals
+same-by [] [] = refl
+same-by [] (y ∷ ys) = refl
+same-by (x ∷ xs) [] = refl
+same-by (x ∷ xs) (y ∷ ys) = ap (λ (t : Bool). eqb x y && t) (same-by xs ys)
+
 -- what the bars give passes
 pub held-passes : (n : ℕ) (bars : List Bar) → same_held (held_of n bars) (held_of n bars) ≡ true
 unfolding same_held held_of
@@ -49,30 +57,3 @@ pub price-is : (x y : Float) → fits binary64 x ≡ true → fits binary64 y �
 price-is x y f g h =
     let bits = eqb-true (to_bits binary64 x) (to_bits binary64 y) ((and-eq-true_iff (eq x y) (eqb (to_bits binary64 x) (to_bits binary64 y))).0 h).1 in
     sym (of_bits-to_bits binary64 x (subst T (sym f) tt)) ∙ ap (of_bits binary64) bits ∙ of_bits-to_bits binary64 y (subst T (sym g) tt)
-
-ordinals-are : (a b : List ℕ) → same_ordinals a b ≡ true → a ≡ b
-unfolding same_ordinals
-ordinals-are [] [] h = refl
-ordinals-are [] (y ∷ ys) h = absurd (false≢true h)
-ordinals-are (x ∷ xs) [] h = absurd (false≢true h)
-ordinals-are (x ∷ xs) (y ∷ ys) h =
-    let both = (and-eq-true_iff (eqb x y) (same_ordinals xs ys)).0 h in
-    rw (eqb-true x y both.0, ordinals-are xs ys both.1)
-
-pub held-is : (a b : HeldExtremes) → (same_price a.highest b.highest ≡ true → a.highest ≡ b.highest) → (same_price a.lowest b.lowest ≡ true → a.lowest ≡ b.lowest)
-    → same_held a b ≡ true → a ≡ b
-unfolding same_held
-held-is a b highest lowest h =
-    let A = same_price a.highest b.highest in
-    let B = same_price a.lowest b.lowest in
-    let C = same_ordinals a.highs b.highs in
-    let D = same_ordinals a.lows b.lows in
-    let three = (and-eq-true_iff (A && B && C) D).0 h in
-    let two = (and-eq-true_iff (A && B) C).0 three.0 in
-    let one = (and-eq-true_iff A B).0 two.0 in
-    λ i. record {
-      highest = highest one.0 i;
-      lowest = lowest one.1 i;
-      highs = ordinals-are a.highs b.highs two.1 i;
-      lows = ordinals-are a.lows b.lows three.1 i;
-    }

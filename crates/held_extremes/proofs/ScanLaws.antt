@@ -15,7 +15,7 @@ pub use Rattle.measures.proofs.Order.{reaches-up, reaches-down}
 use Rattle.measures.proofs.Order.{is-nan, both_ways}
 use Rattle.rule_types.specs.Number.{quarter_bars}
 use Rattle.held_extremes.specs.Candidate.{candidates, placed}
-use Rattle.held_extremes.proofs.CandidateLaws.{Way, Extreme, Tells, tells-new, tells-old, length-candidates}
+use Rattle.held_extremes.proofs.CandidateLaws.{Way, SideLaws, Tells, tells-new, tells-old, length-candidates}
 use Rattle.held_extremes.proofs.HeldLaws.{length-column}
 use Rattle.held_extremes.proofs.PartLaws.{placed-part}
 
@@ -88,12 +88,11 @@ no-price : (c : Column) (bars : List Bar) (i : ℕ) → i ≡ length bars → dr
 unfolding column_of
 no-price c bars i e = let past : length (map (price_of c) bars) ≤ i = rw length-map (omega arith) in drop_of_length-le (map (price_of c) bars) past
 
-pub scan-starts : (beyond : Float → Float → Bool) (f : Float → Float → Float) (start : Float) → Extreme beyond f start
-    → (c : Column) (top : Float) (s : List ℕ) (at n i : ℕ) (bars : List Bar) → top ≡ start → i ≡ length bars → drop at s ≡ replicate quarter_bars 0
-    → Scanned beyond s at top n (drop i (column_of c bars))
+pub scan-starts : (beyond : Float → Float → Bool) (start : Float) → SideLaws beyond start → (c : Column) (s : List ℕ) (at n i : ℕ) (bars : List Bar) → i ≡ length bars → drop at s ≡ replicate quarter_bars 0
+    → Scanned beyond s at start n (drop i (column_of c bars))
 unfolding candidates every_of
-scan-starts beyond f start x c top s at n i bars e l z =
-    rw (no-price c bars i l, e) (record { known = x.known []; told = λ y. sym (ap not (x.none y)); stand = z })
+scan-starts beyond start x c s at n i bars l z =
+    rw (no-price c bars i l) (record { known = x.known; told = λ y. sym (ap not (x.none y)); stand = z })
 
 -- where the candidates begin
 pub stays_within : (is : Bool) (r at i len : ℕ) → r ≡ cond is (at - 1) at → at ≤ quarter_bars → quarter_bars + i ≤ at + len → 1 ≤ i → i ≤ len → (r ≤ quarter_bars) × (quarter_bars + (i - 1) ≤ r + len)

@@ -1,5 +1,5 @@
 -- Helpers of the code alone: the bar and the price of a candidate, by its ordinal; and what one bar more makes of what was held.
-use Rattle.std.specs.Prelude.{ℕ, ◌+◌, ◌-◌, Bool, true, false, cond, ◌||◌, List, [], ◌∷◌, ◌++◌, eqb, length, get_or, take, drop, Float}
+use Rattle.std.specs.Prelude.{ℕ, ◌+◌, ◌-◌, Bool, true, false, cond, ◌||◌, List, [], ◌∷◌, ◌++◌, eqb, length, get_or, take, Float}
 use Rattle.std.specs.Float.{inf}
 use Rattle.std.specs.Float.Ieee.{is_nan}
 use Rattle.measures.specs.Bar.{Bar, no_bar}
@@ -9,7 +9,7 @@ use Rattle.measures.specs.Fold.{price_of}
 use Rattle.measures.specs.Window.{back_of}
 use Rattle.rule_types.specs.Number.{quarter_bars}
 use Rattle.held_extremes.specs.declared.HeldExtremes.{HeldExtremes}
-use Rattle.held_extremes.specs.declared.Standing.{Standing}
+use Rattle.held_extremes.specs.declared.HeldSide.{HeldSide}
 use Rattle.held_extremes.specs.Candidate.{greater, smaller, placed}
 
 -- the bar with an ordinal, of bars that follow some others
@@ -24,18 +24,15 @@ bar_price c before bars ordinal = price_of c (bar_with before bars ordinal)
 abbrev pub price_with : Column → Float → ℕ → List Bar → ℕ → Float
 price_with c none before bars ordinal = cond (eqb ordinal 0) none (bar_price c before bars ordinal)
 
--- what is held, of lists in which its places stand
-abbrev pub stands_in : Standing → List ℕ → List ℕ → HeldExtremes
-stands_in s highs lows = record { highest = s.highest; lowest = s.lowest; highs = take quarter_bars (drop s.high highs); lows = take quarter_bars (drop s.low lows) }
+-- one side of what is held, by its places: the foremost is the first candidate's price
+abbrev pub side_with : Column → Float → ℕ → List Bar → List ℕ → HeldSide
+side_with c none before bars places = record { foremost = price_with c none before bars (get_or places 0 0); places = places }
+
+-- both sides
+abbrev pub both : HeldSide → HeldSide → HeldExtremes
+both high low = record { highest = high.foremost; lowest = low.foremost; highs = high.places; lows = low.places }
 
 -- ---- one bar more
-
--- the column of the highest or of the lowest, and what is beyond there
-abbrev pub column_for : Bool → Column
-column_for high = cond high High Low
-
-abbrev pub beyond_for : Bool → Float → Float → Bool
-beyond_for high x later = cond high (greater x later) (smaller x later)
 
 -- places without the first, if that has the bar that falls out
 abbrev pub left_of : ℕ → List ℕ → List ℕ
@@ -60,15 +57,9 @@ next_ordinals beyond c before last bars places =
     let y = price_of c (back_of bars 1) in
     room_for beyond y (bar_price c before bars) (take (quarter_bars - 1) (left_of (last - quarter_bars) places)) ++ entered y last
 
--- what is held then: the foremost is the first candidate's price
+-- what is held then
 abbrev pub held_from : ℕ → List Bar → List ℕ → List ℕ → HeldExtremes
-held_from before bars highs lows =
-    record {
-      highest = price_with High (inf true) before bars (get_or highs 0 0);
-      lowest = price_with Low (inf false) before bars (get_or lows 0 0);
-      highs = highs;
-      lows = lows;
-    }
+held_from before bars highs lows = both (side_with High (inf true) before bars highs) (side_with Low (inf false) before bars lows)
 
 unfoldable pub next_held : HeldExtremes → ℕ → List Bar → HeldExtremes
 next_held h last bars =

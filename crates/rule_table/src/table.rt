@@ -11,13 +11,87 @@ use rule_types::counts::{GATE_END, QUARTER_BARS, REACH_BARS, RECOGNISERS};
 use rule_types::label::{Pair, pair_a, pair_b, pick};
 use thresholds::Thresholds;
 
-// The p from which each rule holds, in the order of the numbers.
-const FROM: [usize; RECOGNISERS] = [1, 2, 12, 16, 5, 6, 3, 2, 1, 2, 2, 3, 3, 11, 8, 21, 7, 5];
+// A recogniser's row: the p from which its rule holds, and whether its short pair is B.
+#[derive(Clone, Copy)]
+struct TableRow {
+    from: usize,
+    short_is_b: bool,
+}
 
-// Whether the short pair of each is B.
-const SHORT_IS_B: [bool; RECOGNISERS] = [
-    false, false, true, true, false, false, true, false, false, true, true, true, false, false,
-    true, true, true, false,
+// The rows in the order of the numbers.
+const ROWS: [TableRow; RECOGNISERS] = [
+    TableRow {
+        from: 1,
+        short_is_b: false,
+    },
+    TableRow {
+        from: 2,
+        short_is_b: false,
+    },
+    TableRow {
+        from: 12,
+        short_is_b: true,
+    },
+    TableRow {
+        from: 16,
+        short_is_b: true,
+    },
+    TableRow {
+        from: 5,
+        short_is_b: false,
+    },
+    TableRow {
+        from: 6,
+        short_is_b: false,
+    },
+    TableRow {
+        from: 3,
+        short_is_b: true,
+    },
+    TableRow {
+        from: 2,
+        short_is_b: false,
+    },
+    TableRow {
+        from: 1,
+        short_is_b: false,
+    },
+    TableRow {
+        from: 2,
+        short_is_b: true,
+    },
+    TableRow {
+        from: 2,
+        short_is_b: true,
+    },
+    TableRow {
+        from: 3,
+        short_is_b: true,
+    },
+    TableRow {
+        from: 3,
+        short_is_b: false,
+    },
+    TableRow {
+        from: 11,
+        short_is_b: false,
+    },
+    TableRow {
+        from: 8,
+        short_is_b: true,
+    },
+    TableRow {
+        from: 21,
+        short_is_b: true,
+    },
+    TableRow {
+        from: 7,
+        short_is_b: true,
+    },
+    TableRow {
+        from: 5,
+        short_is_b: false,
+    },
 ];
 
 // The short pair of recogniser k below the p given, else the rule's.
@@ -25,12 +99,14 @@ fn row(k: usize, p: usize, full: Pair) -> Pair
     requires { k < recognisers }
     ensures { result ≡ cond (ltb p (table_row k).from) (table_row k).short full }
 {
-    let short = pick(SHORT_IS_B[k], pair_b(), pair_a());
-    pick(p < FROM[k], short, full)
+    let r = ROWS[k];
+    let short = pick(r.short_is_b, pair_b(), pair_a());
+    pick(p < r.from, short, full)
 }
 
 // The rule of recogniser k over the window w that ends with the judged bar; deep: 22 bars or more lie up to it. The gate of 12 reads len
-// and a window of its own. Past the table the pair is A.
+// and a window of its own. Past the table the pair is A. k is a number and no enum: the C interface takes any u32, and each has its pair.
+#[tactic(auto, unfolding(crate::specs::Table::table_row, crate::specs::Table::rows, crate::specs::Table::seen_of, quarter_rules::specs::QuarterRule::quarter_of))]
 fn rule(k: u32, t: Thresholds, len: usize, deep: bool, w: &[f64], gate: &[f64]) -> Pair
     ensures { result ≡ rule_of k t len deep (bars_of w.now) (bars_of gate.now) }
 {
@@ -84,7 +160,7 @@ pub fn pair_at(k: u32, t: Thresholds, len: usize, prices: &[f64], di: usize) -> 
 }
 
 // Every rule over the same windows. What several rules need is made once: the newest bars, the extremes of the quarter, and the search of
-// 4 and 17.
+// 4 and 17. The bars have a line each: an array of them would be taken apart at once.
 fn rules(t: Thresholds, len: usize, deep: bool, w: &[f64], gate: &[f64]) -> [Pair; RECOGNISERS]
     ensures { result ≡ rules_of t len deep (bars_of w.now) (bars_of gate.now) }
 {
@@ -128,16 +204,13 @@ fn first_short(p: usize) -> usize
     if REACH_BARS <= p { RECOGNISERS } else { 0 }
 }
 
-// Every recogniser over the same windows.
+// Every recogniser over the same windows: the pairs that may be short take the rules' places.
 fn pairs(t: Thresholds, len: usize, p: usize, w: &[f64], gate: &[f64]) -> [Pair; RECOGNISERS]
     ensures { result ≡ pairs_of t len p (bars_of w.now) (bars_of gate.now) }
 {
-    let full = rules(t, len, p >= REACH_BARS, w, gate);
-    let mut pairs = full;
-    let mut k = first_short(p);
-    while k < RECOGNISERS {
-        pairs[k] = row(k, p, full[k]);
-        k += 1;
+    let mut pairs = rules(t, len, p >= REACH_BARS, w, gate);
+    for k in first_short(p)..RECOGNISERS {
+        pairs[k] = row(k, p, pairs[k]);
     }
     pairs
 }

@@ -11,7 +11,7 @@ use borrow.Author.Tests.{leb-true, leb-false, ltb-true, ltb-false, lt-ltb, le-lt
 use lib.Dec.{leb, ltb}
 use lib.ListN.{length, get_or, set, take, drop, length-drop, drop_of_length-le}
 use lib.Seq.{get_or-take, get_or-drop, length-take-le, take-add, take-suc, drop-append-le, drop-cons, set_split, drop_at, get_or_at}
-use lib.Ieee.{Float, nan, inf}
+use lib.Ieee.{Float, inf}
 use Rattle.measures.specs.Bar.{Bar, no_bar}
 use Rattle.measures.specs.Fold.{column_of, highest_of, lowest_of, extremes_of}
 use Rattle.measures.specs.Price.{max_of, min_of}
@@ -109,16 +109,15 @@ module _ (bars : List Bar) (at k : ℕ) (few : k < quarter_bars) where
       rw (s, b, e, take-add at (k + 1) bars, a) (sym (drop-append-le (at - (quarter_bars - 1 - k)) (take at bars) (take (k + 1) (drop at bars)) (rw a (omega arith))))
 
   -- so the extremes of the window come from those of its parts
-  pub window-joined : (high low : Float) (newer : Extremes) → high ≡ (extremes_of (bars_before bars at k)).highest → low ≡ (extremes_of (bars_before bars at k)).lowest
-      → (at + k < length bars → newer ≡ extremes_of newer-bars)
-      → joined (ltb (at + k) (length bars)) high low newer ≡ extremes_of (window_to bars (at + k))
+  pub window-joined : (older newer : Extremes) → older ≡ extremes_of (bars_before bars at k) → (at + k < length bars → newer ≡ extremes_of newer-bars)
+      → joined (ltb (at + k) (length bars)) older newer ≡ extremes_of (window_to bars (at + k))
   unfolding window_to
-  window-joined high low newer h l n = go (ltb (at + k) (length bars)) refl
+  window-joined older newer o n = go (ltb (at + k) (length bars)) refl
     where
-      go : (t : Bool) → ltb (at + k) (length bars) ≡ t → joined t high low newer ≡ extremes_of (cond t (newest quarter_bars (take (at + k + 1) bars)) [])
+      go : (t : Bool) → ltb (at + k) (length bars) ≡ t → joined t older newer ≡ extremes_of (cond t (newest quarter_bars (take (at + k + 1) bars)) [])
       go true e =
           let within : at + k < length bars = ltb-true (at + k) (length bars) e in
-          rw (h, l, n within) (runs-join (bars_before bars at k) newer-bars ∙ ap extremes_of (window-meets within))
+          rw (o, n within) (runs-join (bars_before bars at k) newer-bars ∙ ap extremes_of (window-meets within))
       go false e = refl
 
 -- from the end of the run on there is no window
@@ -132,60 +131,58 @@ windows-end bars at k = go (ltb at (length bars)) refl
         let past = ltb-false at (length bars) e in
         rw (le-ltb (min at (length bars) + k) (length bars) (omega (arith, past)), le-ltb (at + k) (length bars) (omega (arith, past)))
 
--- ---- the places, once for both columns
+-- ---- the places
 
-module _ (read : Extremes → Float) (bars : List Bar) (at : ℕ) where
-  abbrev old : ℕ → Float
-  old k = read (extremes_of (bars_before bars at k))
+module _ (bars : List Bar) (at : ℕ) where
+  abbrev old : ℕ → Extremes
+  old k = extremes_of (bars_before bars at k)
 
-  abbrev new : ℕ → Float
-  new k = read (extremes_of (window_to bars (at + k)))
+  abbrev new : ℕ → Extremes
+  new k = extremes_of (window_to bars (at + k))
 
-  abbrev olds : List Float
+  abbrev olds : List Extremes
   olds = map old (numbers quarter_bars 0)
 
-  abbrev news : List Float
+  abbrev news : List Extremes
   news = map new (numbers quarter_bars 0)
 
-  -- from the last back: the last i places, and one more
-  abbrev pub Laid : List Float → ℕ → Type 0
-  Laid l i = drop (quarter_bars - i) l ≡ map old (numbers i (quarter_bars - i))
+  -- from the last back: the places from one on, and one more
+  abbrev pub Laid : List Extremes → ℕ → Type 0
+  Laid l k = drop k l ≡ map old (numbers (quarter_bars - k) k)
 
-  pub none-laid : (l : List Float) → length l ≡ quarter_bars → Laid l 0
+  pub none-laid : (l : List Extremes) → length l ≡ quarter_bars → Laid l quarter_bars
   unfolding numbers
   none-laid l size = let past : length l ≤ quarter_bars = omega (arith, size) in drop_of_length-le l past
 
-  pub laid_next : (l : List Float) (i : ℕ) (e : Extremes) → i < quarter_bars → length l ≡ quarter_bars → e ≡ extremes_of (newest i (take at bars)) → Laid l i
-      → Laid (set l (quarter_bars - 1 - i) (read e)) (i + 1)
+  pub laid_next : (l : List Extremes) (k : ℕ) (e : Extremes) → k < quarter_bars → length l ≡ quarter_bars → e ≡ extremes_of (newest (quarter_bars - (k + 1)) (take at bars)) → Laid l (k + 1)
+      → Laid (set l k e) k
   unfolding numbers
-  laid_next l i e few size is was =
-      let k = quarter_bars - 1 - i in
-      let here : quarter_bars - (i + 1) ≡ k = omega arith in
-      let there : quarter_bars - i ≡ k + 1 = omega arith in
-      let back : quarter_bars - 1 - k ≡ i = omega arith in
-      let rest : drop (suc k) l ≡ map old (numbers i (k + 1)) = rw (← add-one k) (rw there at was) in
-      rw (here, add-one i, set_split l k (read e) (omega (arith, size))) (drop_at (take k l) (read e ∷ drop (suc k) l) k (length-take-le k l (omega (arith, size))) ∙ rw (rest, is, back))
+  laid_next l k e few size is was =
+      let one : quarter_bars - k ≡ suc (quarter_bars - (k + 1)) = omega arith in
+      let back : quarter_bars - 1 - k ≡ quarter_bars - (k + 1) = omega arith in
+      let rest : drop (suc k) l ≡ map old (numbers (quarter_bars - (k + 1)) (k + 1)) = rw (← add-one k) was in
+      rw (one, set_split l k e (omega (arith, size))) (drop_at (take k l) (e ∷ drop (suc k) l) k (length-take-le k l (omega (arith, size))) ∙ rw (rest, is, back))
 
   -- from the first on: the first k places, what stands in the next, and one more
-  abbrev pub Joined : List Float → ℕ → Type 0
+  abbrev pub Joined : List Extremes → ℕ → Type 0
   Joined l k = l ≡ take k news ++ drop k olds
 
-  pub stands : (l : List Float) (k : ℕ) → k < quarter_bars → Joined l k → get_or l k nan ≡ old k
-  stands l k few e =
-      rw (e, drop-cons olds k nan (rw (length-numbers old quarter_bars 0) few))
-      (get_or_at (take k news) (get_or olds k nan) _ nan k (length-take-le k news (rw (length-numbers new quarter_bars 0) (omega arith))) ∙ number_at old quarter_bars 0 k nan few ∙ rw zero-add)
+  pub stands : (l : List Extremes) (k : ℕ) (d : Extremes) → k < quarter_bars → Joined l k → get_or l k d ≡ old k
+  stands l k d few e =
+      rw (e, drop-cons olds k d (rw (length-numbers old quarter_bars 0) few))
+      (get_or_at (take k news) (get_or olds k d) _ d k (length-take-le k news (rw (length-numbers new quarter_bars 0) (omega arith))) ∙ number_at old quarter_bars 0 k d few ∙ rw zero-add)
 
-  pub joined-next : (l : List Float) (k : ℕ) (w : Extremes) → k < quarter_bars → Joined l k → w ≡ extremes_of (window_to bars (at + k)) → Joined (set l k (read w)) (k + 1)
+  pub joined-next : (l : List Extremes) (k : ℕ) (w : Extremes) → k < quarter_bars → Joined l k → w ≡ extremes_of (window_to bars (at + k)) → Joined (set l k w) (k + 1)
   joined-next l k w few e is =
-      let there : get_or news k nan ≡ new k = number_at new quarter_bars 0 k nan few ∙ rw zero-add in
-      rw (e, is, ← there) (place-next news olds k nan (rw (length-numbers new quarter_bars 0) few) (rw (length-numbers old quarter_bars 0) few))
+      let there : get_or news k w ≡ new k = number_at new quarter_bars 0 k w few ∙ rw zero-add in
+      let put : get_or news k w ≡ w = there ∙ sym is in
+      rw e (rw put at (place-next news olds k w (rw (length-numbers new quarter_bars 0) few) (rw (length-numbers old quarter_bars 0) few)))
 
 -- ---- for others: the extremes in the k-th place, where there is such a bar
 
-pub window-at : (bars : List Bar) (at k : ℕ) → k < quarter_bars → at + k < length bars
-    → let e = extremes_of (newest quarter_bars (take (at + k + 1) bars)) in
-    (get_or (window_extremes bars at).highs k nan ≡ e.highest) × (get_or (window_extremes bars at).lows k nan ≡ e.lowest)
+pub window-at : (bars : List Bar) (at k : ℕ) (d : Extremes) → k < quarter_bars → at + k < length bars
+    → get_or (window_extremes bars at) k d ≡ extremes_of (newest quarter_bars (take (at + k + 1) bars))
 unfolding window_extremes window_to
-window-at bars at k few within =
+window-at bars at k d few within =
     let there : window_to bars (at + (0 + k)) ≡ newest quarter_bars (take (at + k + 1) bars) = rw zero-add (simp (lt-ltb (at + k) (length bars) within)) in
-    (number_at (λ k. (extremes_of (window_to bars (at + k))).highest) quarter_bars 0 k nan few ∙ rw there, number_at (λ k. (extremes_of (window_to bars (at + k))).lowest) quarter_bars 0 k nan few ∙ rw there)
+    number_at (λ k. extremes_of (window_to bars (at + k))) quarter_bars 0 k d few ∙ rw there

@@ -6,7 +6,6 @@ use Rattle.measures.specs.Fold.{extremes_of}
 use Rattle.measures.specs.declared.folds.Extremes.{Extremes}
 use Rattle.measures.specs.Window.{newest}
 use Rattle.rule_types.specs.Number.{quarter_bars}
-use Rattle.sliding_extremes.specs.declared.WindowExtremes.{WindowExtremes}
 use Rattle.sliding_extremes.specs.WindowExtreme.{extremes_over}
 
 -- what comes later enters if it is beyond
@@ -22,12 +21,12 @@ abbrev pub next_older : Extremes → List Bar → ℕ → ℕ → Extremes
 next_older e bars at i = cond (leb i at) (with_older e (get_or bars (at - i) no_bar)) e
 
 -- the extremes of a window from those of its older and of its newer bars; of no bar where there is no window
-abbrev pub joined : Bool → Float → Float → Extremes → Extremes
-joined inside high low newer = cond inside (with_newer (record { highest = high; lowest = low }) newer.highest newer.lowest) (extremes_of [])
+abbrev pub joined : Bool → Extremes → Extremes → Extremes
+joined inside older newer = cond inside (with_newer older newer.highest newer.lowest) (extremes_of [])
 
 -- the bars before a place that the window of the k-th bar from there on has, and their extremes
 abbrev pub bars_before : List Bar → ℕ → ℕ → List Bar
 bars_before bars at k = newest (quarter_bars - 1 - k) (take at bars)
 
-unfoldable pub older_extremes : List Bar → ℕ → WindowExtremes
+unfoldable pub older_extremes : List Bar → ℕ → List Extremes
 older_extremes bars at = extremes_over (bars_before bars at)

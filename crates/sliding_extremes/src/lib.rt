@@ -11,15 +11,8 @@ ghost use Rattle.rule_types.specs.Number.{quarter_bars};
 ghost use Rattle.sliding_extremes.specs.WindowExtreme.{window_extremes};
 ghost use Rattle.sliding_extremes.specs.WindowExtremeSteps.{with_newer, with_older, next_older, joined, older_extremes};
 
-use measures::{Bar, Extremes, bar_or_none, count, least, pick, price};
+use measures::{Bar, Extremes, bar_or_none, count, pick, price};
 use rule_types::counts::QUARTER_BARS;
-
-// The highest high and the lowest low of each of twenty windows.
-#[derive(Clone, Copy)]
-pub struct WindowExtremes {
-    pub highs: [f64; QUARTER_BARS],
-    pub lows: [f64; QUARTER_BARS],
-}
 
 // The extremes of no bar.
 fn no_bars() -> Extremes
@@ -63,71 +56,51 @@ fn next_older(e: Extremes, prices: &[f64], at: usize, i: usize) -> Extremes
 }
 
 // The extremes of the 19 - k bars before a place come to stand in the k-th place.
-fn older(prices: &[f64], at: usize, highs: &mut [f64], lows: &mut [f64])
-    requires { (at ≤ length (bars_of prices.now)) × (length highs.old ≡ quarter_bars) × (length lows.old ≡ quarter_bars) }
-    ensures highs { highs.new ≡ (older_extremes (bars_of prices.now) at).highs }
-    ensures lows { lows.new ≡ (older_extremes (bars_of prices.now) at).lows }
+fn older(prices: &[f64], at: usize, places: &mut [Extremes])
+    requires { (at ≤ length (bars_of prices.now)) × (length places.old ≡ quarter_bars) }
+    ensures { places.new ≡ older_extremes (bars_of prices.now) at }
 {
     let mut e = no_bars();
-    let mut i = 0usize;
-    while i < QUARTER_BARS {
-        let k = QUARTER_BARS - 1 - i;
-        highs[k] = e.highest;
-        lows[k] = e.lowest;
-        i += 1;
-        e = next_older(e, prices, at, i);
+    for k in (0..QUARTER_BARS).rev() {
+        places[k] = e;
+        e = next_older(e, prices, at, QUARTER_BARS - k);
     }
 }
 
 // The extremes of a window from those of its older and of its newer bars; of no bar where there is no window.
-fn join(inside: bool, high: f64, low: f64, newer: Extremes) -> Extremes
-    ensures { result ≡ joined inside high low newer }
+fn join(inside: bool, older: Extremes, newer: Extremes) -> Extremes
+    ensures { result ≡ joined inside older newer }
 {
     if inside {
-        with_newer(
-            Extremes {
-                highest: high,
-                lowest: low,
-            },
-            newer.highest,
-            newer.lowest,
-        )
+        with_newer(older, newer.highest, newer.lowest)
     } else {
         no_bars()
     }
 }
 
 // What stands in each place is joined with the extremes of the bars from the place at on, up to the bar of the place.
-fn newer(prices: &[f64], at: usize, highs: &mut [f64], lows: &mut [f64])
-    requires { (at ≤ length (bars_of prices.now)) × (highs.old ≡ (older_extremes (bars_of prices.now) at).highs) × (lows.old ≡ (older_extremes (bars_of prices.now) at).lows) }
-    ensures highs { highs.new ≡ (window_extremes (bars_of prices.now) at).highs }
-    ensures lows { lows.new ≡ (window_extremes (bars_of prices.now) at).lows }
+fn newer(prices: &[f64], at: usize, places: &mut [Extremes])
+    requires { (at ≤ length (bars_of prices.now)) × (places.old ≡ older_extremes (bars_of prices.now) at) }
+    ensures { places.new ≡ window_extremes (bars_of prices.now) at }
 {
     let n = count(prices);
     let mut e = no_bars();
-    let mut k = 0usize;
-    while k < QUARTER_BARS {
+    for k in 0..QUARTER_BARS {
         let b = bar_or_none(prices, at + k);
         e = with_newer(e, b.high, b.low);
-        let w = join(at + k < n, highs[k], lows[k], e);
-        highs[k] = w.highest;
-        lows[k] = w.lowest;
-        k += 1;
+        places[k] = join(at + k < n, places[k], e);
     }
 }
 
 // The extremes of the windows that end with the bars of a run from the place at on, twenty of them: in the k-th place those of the newest 20
-// bars up to the bar at + k, counted from 0, and the infinities where there is no such bar.
-pub fn window_extremes(prices: &[f64], at: usize) -> WindowExtremes
+// bars up to the bar at + k, counted from 0, and the infinities where there is no such bar. Each is an `Extremes`, as a rule of the quarter
+// takes it.
+pub fn window_extremes(prices: &[f64], at: usize) -> [Extremes; QUARTER_BARS]
     ensures { result ≡ window_extremes (bars_of prices.now) at }
 {
-    let from = least(at, count(prices));
-    let mut highs = [0.0; QUARTER_BARS];
-    let mut lows = [0.0; QUARTER_BARS];
-    older(prices, from, &mut highs, &mut lows);
-    newer(prices, from, &mut highs, &mut lows);
-    WindowExtremes {
-        highs: highs,
-        lows: lows,
-    }
+    let from = at.min(count(prices));
+    let mut places = [no_bars(); QUARTER_BARS];
+    older(prices, from, &mut places);
+    newer(prices, from, &mut places);
+    places
 }

@@ -3,13 +3,9 @@ use mathlib.Core.Path.{◌≡◌, ◌∙◌, sym}
 use lib.Dec.{eqb}
 use lib.Ieee.{binary64, to_bits}
 use Rattle.held_extremes.specs.Candidate.{same_price}
-use mathlib.Core.Bool.{false≢true}
 use Rattle.held_extremes.proofs.SameLaws.{price-is}
-use Rattle.held_extremes.proofs.PartLaws.{first-known, second-known}
+use Rattle.held_extremes.proofs.PartLaws.{second-known}
 use Rattle.held_extremes.proofs.same_price.Goals as goal
-
-pub float_to_bits-result : goal.float_to_bits-result
-float_to_bits-result c = first-known c.args.x c.args.y c.if-x-y.true
 
 pub float_to_bits-result-then-x-y : goal.float_to_bits-result-then-x-y
 float_to_bits-result-then-x-y c = second-known c.args.x c.args.y c.if-x-y.true
@@ -20,6 +16,3 @@ returns-then-x-y c =
     let y = c.args.y in
     let e : eqb (to_bits binary64 x) (to_bits binary64 y) ≡ same_price x y = simp c.if-x-y.true in
     (e, λ same. price-is x y c.well_formed.0.1 c.well_formed.1.0.1 (sym e ∙ same))
-
-pub returns-else-x-y : goal.returns-else-x-y
-returns-else-x-y c = (simp c.if-x-y.false, λ same. absurd (false≢true same))

@@ -1,5 +1,0 @@
--- The code is the definition.
-use Rattle.sliding_extremes.proofs.with_older.Goals as goal
-
-pub returns : goal.returns
-returns c = simp (c.pick-2.ensures, c.pick.ensures)
