@@ -1,0 +1,15 @@
+-- A refusal is the answer alone; otherwise the pair is that of the bytes' history. Assumes nothing.
+use mathlib.Core.Path.{sym}
+use Rattle.std.proofs.lemmas.Result.{err_from_is_err_and}
+use Rattle.recognisers.proofs.AnswerLaws.{refused, given}
+use Rattle.recognisers.proofs.ByteLaws.{length-history}
+use Rattle.recognisers.proofs.export.recognise_bytes.Goals as goal
+
+pub returns-in_err-plain_verdict : goal.returns-in_err-plain_verdict
+returns-in_err-plain_verdict c =
+    let p = err_from_is_err_and c.from_residual.result c.from_residual.ensures.1 in
+    rw (p.1, p.2) (sym (refused _ _ _ _ _ _ _ (sym (length-history c.args.bars.now)) (sym c.in_err-plain_verdict.ensures)))
+
+pub returns : goal.returns
+returns c =
+    sym (given _ _ _ _ _ _ _ (sym (length-history c.args.bars.now)) (sym c.in_ok-plain_verdict.ensures) c.pair_at.ensures)
