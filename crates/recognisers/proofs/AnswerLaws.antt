@@ -1,5 +1,6 @@
 -- The number and codes of a plain call's answer. Assumes nothing.
 use Rattle.std.specs.Prelude.{Err, Ok}
+use Rattle.answers.specs.declared.refusals.Refusal.{Refusal}
 use Rattle.answers.specs.Refusal.{Verdict}
 use Rattle.answers.specs.Answer.{Answer}
 use Prim.Native.Nat.{ℕ}
@@ -15,6 +16,17 @@ use Rattle.rule_types.specs.Label.{codes_of}
 use Rattle.answers.specs.Refusal.{verdict_number, leaves, plain_verdict}
 use Rattle.answers.specs.Answer.{answer_to, refusal_in, codes_in}
 use Rattle.recognisers.specs.Call.{plain_answer, plain_number, plain_codes}
+
+-- the answer to a verdict on as many bars as the history has: the refusal, or the pair
+pub refused : (k di : ℕ) (t : Thresholds) (whole : Bool) (history : List Bar) (len : ℕ) (r : Refusal) → len ≡ length history → plain_verdict k di t whole len ≡ Err r
+    → plain_answer k di t whole history ≡ Err r
+unfolding plain_answer
+refused k di t whole history len r e denied = rw (← e, denied) refl
+
+pub given : (k di : ℕ) (t : Thresholds) (whole : Bool) (history : List Bar) (len : ℕ) (pair : Pair) → len ≡ length history → plain_verdict k di t whole len ≡ Ok tt
+    → pair ≡ pair_at k t (length history) history di → plain_answer k di t whole history ≡ Ok pair
+unfolding plain_answer
+given k di t whole history len pair e accepted is = rw (← e, accepted, is, e) refl
 
 values-in : (v : Verdict) (pair : Pair)
     → (refusal_in (answer_to v (Ok pair)) ≡ verdict_number v) × (codes_in (answer_to v (Ok pair)) ≡ leaves v [] (codes_of (pair ∷ [])))

@@ -3,5 +3,6 @@ pub mod Reach
 pub mod TableLaws
 pub mod AnswerLaws
 pub mod ByteLaws
+pub mod HistoryLaws
 pub mod CodeLaws
 pub mod SameDojis

@@ -2,7 +2,7 @@
 use Rattle.std.specs.Prelude.{ℕ, zero, suc, ◌+◌, ◌*◌, ◌/◌, ◌%◌, List, [], ◌∷◌, eqb, length, take, drop, Float}
 use Rattle.std.specs.Float.{binary64}
 use Rattle.std.specs.Float.Ieee.{of_bits}
-use Rattle.measures.specs.Bar.{bars_of}
+use Rattle.measures.specs.Bar.{Bar, bar_of, bars_of}
 use Rattle.thresholds.specs.declared.Thresholds.{Thresholds}
 pub use Rattle.answers.specs.Answer.{pair_number, result_of}
 use Rattle.recognisers.specs.Call.{plain_answer}
@@ -23,6 +23,10 @@ price_at s at = of_bits binary64 (little_endian (take 8 (drop at s)))
 unfoldable pub prices_at : List ℕ → ℕ → ℕ → List Float
 prices_at s at zero = []
 prices_at s at (suc n) = price_at s at ∷ prices_at s (at + 8) n
+
+-- the bar whose 32 bytes begin at a place
+abbrev pub bar_at : List ℕ → ℕ → Bar
+bar_at s at = bar_of (price_at s at) (price_at s (at + 8)) (price_at s (at + 16)) (price_at s (at + 24))
 
 -- the prices that bytes stand for
 unfoldable pub decoded_prices : List ℕ → List Float

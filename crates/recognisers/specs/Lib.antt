@@ -7,5 +7,4 @@ pub mod Table
 pub mod Refusal
 pub mod Call
 pub mod Export
-pub mod ExportSteps
 pub mod SameDojis

@@ -5,12 +5,14 @@
 
 pub mod call;
 pub mod export;
+pub mod history;
 
 pub use answers::{
     Judged, Refusal, answer_in, answer_number, box_verdicts, ordinal_in, refusals, verdicts,
 };
 pub use call::recognise;
 pub use export::jcc_label;
+pub use history::{ToBar, recognise_history};
 pub use rule_table::table;
 pub use rule_types::label::{Label, Pair};
 pub use rule_types::{counts, label};

@@ -6,6 +6,7 @@ ghost use Rattle.recognisers.specs.Threshold.{thresholds_of};
 ghost use Rattle.recognisers.specs.Export.{export_of};
 
 // The plain call over the bars of the bytes, as a number. th13 and th14 count tenths: whoever passes 10 as before gets a tenth of what he means.
+// The parameters are those of the C header.
 #[unsafe(no_mangle)]
 pub extern "C" fn jcc_label(
     recogniser: u32,

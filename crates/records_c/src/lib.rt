@@ -8,7 +8,7 @@ ghost use Rattle.recognisers.specs.Export.{result_of};
 
 use measures::Bar;
 
-// The plain call as a number. th13 and th14 count tenths.
+// The plain call as a number. th13 and th14 count tenths. The parameters are those of the C header.
 #[unsafe(no_mangle)]
 pub extern "C" fn jcc_label_bars(
     recogniser: u32,

@@ -1,2 +1,0 @@
--- What serves the code alone.
-pub mod HeldSteps
