@@ -3,11 +3,11 @@ ghost use Rattle.std.specs.Prelude.{◌+◌, ◌≤◌};
 
 use crate::digest::{mix, of_box, of_bytes, of_looks};
 use crate::print;
-use bar_box::{BarBox, Outcome};
+use bar_box::BarBox;
 use measures::least;
 use recognisers::counts::ROW_BYTES;
-use recognisers::refusals::refusal_number;
-use recognisers::{Thresholds, Verdict};
+use recognisers::refusals::verdict_number;
+use recognisers::{Refusal, Thresholds};
 use std::num::wrapping_add_u64;
 
 // The most bars of a history here, and a sheet with room for a row more than that has. A byte that is not written shows: it is 255,
@@ -36,19 +36,11 @@ struct Fed {
 }
 
 // Digests of what a cut leaves: the sheet, the box, every look.
-#[derive(Clone, Copy)]
+#[derive(Clone, Copy, PartialEq, Eq)]
 pub struct Left {
     pub sheet: u64,
     pub places: u64,
     pub looks: u64,
-}
-
-// 0, or the number of the refusal.
-pub fn verdict_number(v: Result<(), Refusal>) -> u64 {
-    match v {
-        Ok(()) => 0,
-        Err(why) => refusal_number(why) as u64,
-    }
 }
 
 // The lent prices from one on, before another, as far as there are any.
@@ -59,53 +51,52 @@ pub fn part(prices: &[f64], from: usize, to: usize) -> &[f64] {
 }
 
 // A feed that is lent the bytes of a sheet from one on, before another.
-pub fn feed_to(b: BarBox, prices: &[f64], sheet: &mut [u8], from: usize, to: usize) -> Outcome {
+pub fn feed_to(
+    b: &mut BarBox,
+    prices: &[f64],
+    sheet: &mut [u8],
+    from: usize,
+    to: usize,
+) -> Result<(), Refusal> {
     let e = least(to, sheet.len());
     let a = least(from, e);
     bar_box::feed(b, prices, &mut sheet[a..e])
 }
 
 // One feed more, if it is wanted.
-fn feed(f: Fed, wanted: bool, prices: &[f64], sheet: &mut [u8], from: usize, to: usize) -> Fed {
+fn feed(f: &mut Fed, wanted: bool, prices: &[f64], sheet: &mut [u8], from: usize, to: usize) {
     if !wanted {
-        return f;
+        return;
     }
-    let b = f.after;
-    let out = feed_to(b, prices, sheet, from, to);
-    let after = out.after;
-    let verdict = out.verdict;
-    let number = verdict_number(verdict);
-    Fed {
-        after,
-        accepted: wrapping_add_u64(f.accepted, (number == 0) as u64),
-        refused: wrapping_add_u64(f.refused, (number != 0) as u64),
-        verdicts: mix(f.verdicts, number),
-    }
+    let verdict = feed_to(&mut f.after, prices, sheet, from, to);
+    f.accepted = wrapping_add_u64(f.accepted, u64::from(verdict.is_ok()));
+    f.refused = wrapping_add_u64(f.refused, u64::from(verdict.is_err()));
+    f.verdicts = mix(f.verdicts, u64::from(verdict_number(verdict)));
 }
 
 // Two feeds of n bars from a bar on that are refused, 4 and 6: a price is missing, then a byte. They are lent rows that are written
 // already, which they would spoil.
-fn feed_refused(f: Fed, wanted: bool, prices: &[f64], sheet: &mut [u8], bar: usize, n: usize) -> Fed
+fn feed_refused(f: &mut Fed, wanted: bool, prices: &[f64], sheet: &mut [u8], bar: usize, n: usize)
     requires { bar + n ≤ 300 }
 {
     let a = 4 * bar;
     let e = 4 * (bar + n);
     let at = ROW_BYTES * bar;
     let end = ROW_BYTES * (bar + n);
-    let next = feed(f, wanted, part(prices, a + 1, e), sheet, at, end);
-    feed(next, wanted, part(prices, a, e), sheet, at + 1, end)
+    feed(f, wanted, part(prices, a + 1, e), sheet, at, end);
+    feed(f, wanted, part(prices, a, e), sheet, at + 1, end);
 }
 
 // The feeds of n bars from a bar on; their rows go to their place of the sheet.
-fn feed_turn(f: Fed, cut: Cut, prices: &[f64], sheet: &mut [u8], bar: usize, n: usize) -> Fed
+fn feed_turn(f: &mut Fed, cut: Cut, prices: &[f64], sheet: &mut [u8], bar: usize, n: usize)
     requires { bar + n ≤ 300 }
 {
     let a = 4 * bar;
     let e = 4 * (bar + n);
     let at = ROW_BYTES * bar;
-    let begun = feed(f, cut.empty, part(prices, a, a), sheet, at, SHEET);
-    let fed = feed(begun, true, part(prices, a, e), sheet, at, SHEET);
-    feed_refused(fed, cut.refused, prices, sheet, bar, n)
+    feed(f, cut.empty, part(prices, a, a), sheet, at, SHEET);
+    feed(f, true, part(prices, a, e), sheet, at, SHEET);
+    feed_refused(f, cut.refused, prices, sheet, bar, n);
 }
 
 // How many bars a feed takes: never none, so that the feeds end.
@@ -128,9 +119,10 @@ fn feed_all(cut: Cut, prices: &[f64], sheet: &mut [u8]) -> Fed {
         verdicts: 1,
     };
     let mut done = 0usize;
+    // no `for`: the cut says how many bars each turn takes
     while done < bars {
         let n = size(cut, done, bars - done);
-        f = feed_turn(f, cut, prices, sheet, done, n);
+        feed_turn(&mut f, cut, prices, sheet, done, n);
         done += n;
     }
     f
@@ -157,8 +149,4 @@ pub fn run(cut: Cut, prices: &[f64]) -> Left {
     print::number(b" refused ", f.refused);
     print::digest(b" verdicts ", f.verdicts);
     left
-}
-
-pub fn is_same(a: Left, b: Left) -> bool {
-    (a.sheet == b.sheet) & (a.places == b.places) & (a.looks == b.looks)
 }

@@ -2,7 +2,7 @@
 use bar_box::{BarBox, KeptBar};
 use measures::{Bar, least};
 use recognisers::counts::{PLACES, RECOGNISERS};
-use recognisers::{LookAnswer, answer_in, answer_number, ordinal_in};
+use recognisers::{Judged, Refusal, answer_in, answer_number, ordinal_in};
 
 // The largest prime below 2^32, and what a digest is multiplied by at each step: no product reaches 2^64.
 const PRIME: u64 = 4294967291;
@@ -14,9 +14,7 @@ const WORD: u64 = 0x1_0000_0000;
 // The recognisers, as a call numbers them.
 pub const KINDS: u32 = RECOGNISERS as u32;
 
-// Each of them at each offset from 0, which is refused, to 44, which is refused too.
-pub const LOOKS: u32 = KINDS * OFFSETS;
-
+// Each of them is asked at each offset from 0, which is refused, to 44, which is refused too.
 pub const OFFSETS: u32 = 45;
 
 // A digest after one word more.
@@ -48,18 +46,15 @@ pub fn mix_place(d: u64, bar: Bar, ordinal: u64) -> u64 {
 }
 
 fn mix_kept(d: u64, place: KeptBar) -> u64 {
-    let bar = place.bar;
-    mix_place(d, bar, place.ordinal as u64)
+    mix_place(d, place.bar, u64::from(place.ordinal))
 }
 
 // Of what the places hold from one on, before another.
 pub fn of_places(bars: [KeptBar; PLACES], from: usize, to: usize) -> u64 {
     let end = least(to, PLACES);
     let mut d = 1;
-    let mut i = from;
-    while i < end {
+    for i in from..end {
         d = mix_kept(d, bars[i]);
-        i += 1;
     }
     d
 }
@@ -67,35 +62,29 @@ pub fn of_places(bars: [KeptBar; PLACES], from: usize, to: usize) -> u64 {
 // Of the count and of all places.
 pub fn of_box(b: BarBox) -> u64 {
     let bars = b.bars;
-    mix(of_places(bars, 0, PLACES), b.count as u64)
+    mix(of_places(bars, 0, PLACES), u64::from(b.count))
 }
 
 pub fn of_bytes(s: &[u8]) -> u64 {
-    let mut d = 1;
-    let mut i = 0usize;
-    while i < s.len() {
-        d = mix(d, s[i] as u64);
-        i += 1;
-    }
-    d
+    s.iter().fold(1, |d, b| mix(d, u64::from(*b)))
 }
 
 // A digest after what a look answers, as a number, and its ordinal.
 pub fn mix_look(d: u64, number: u32, ordinal: u64) -> u64 {
-    mix(mix(d, number as u64), ordinal)
+    mix(mix(d, u64::from(number)), ordinal)
 }
 
 fn mix_answer(d: u64, a: Result<Judged, Refusal>) -> u64 {
-    mix_look(d, answer_number(answer_in(a)), ordinal_in(a) as u64)
+    mix_look(d, answer_number(answer_in(a)), u64::from(ordinal_in(a)))
 }
 
 // Of all that can be seen by looking.
 pub fn of_looks(b: BarBox) -> u64 {
     let mut d = 1;
-    let mut i = 0u32;
-    while i < LOOKS {
-        d = mix_answer(d, bar_box::look(b, i / OFFSETS, i % OFFSETS));
-        i += 1;
+    for k in 0..KINDS {
+        for di in 0..OFFSETS {
+            d = mix_answer(d, bar_box::look(b, k, di));
+        }
     }
     d
 }

@@ -17,10 +17,8 @@ fn count(sheet: &[u8], from: usize, by: usize, code: u8, is: bool) -> u64
     requires { (1 ≤ by) × (by ≤ row_bytes) }
 {
     let mut n = 0;
-    let mut at = from;
-    while at < sheet.len() {
-        n = wrapping_add_u64(n, ((sheet[at] == code) == is) as u64);
-        at += by;
+    for at in (from..sheet.len()).step_by(by) {
+        n = wrapping_add_u64(n, u64::from((sheet[at] == code) == is));
     }
     n
 }
@@ -29,23 +27,19 @@ fn count(sheet: &[u8], from: usize, by: usize, code: u8, is: bool) -> u64
 pub fn write_recognisers(prices: &[f64]) {
     let sheet = rows(prices);
     let end = ROW_BYTES * least(measures::count(prices), BARS);
-    let mut k = 0usize;
-    while k < RECOGNISERS {
-        print::number(b" ", count(&sheet[0..end], 2 * k, ROW_BYTES, 0, false));
-        k += 1;
+    for k in 0..RECOGNISERS {
+        print::number(b" ", count(&sheet[..end], 2 * k, ROW_BYTES, 0, false));
     }
 }
 
 // How often each such v1 stands.
 pub fn write_codes(prices: &[f64]) {
     let sheet = rows(prices);
-    let mut code = 1u8;
-    while code < CODES {
+    for code in 1..CODES {
         let n = count(&sheet, 0, 2, code, true);
         if n != 0 {
-            print::number(b" ", code as u64);
+            print::number(b" ", u64::from(code));
             print::number(b"x", n);
         }
-        code += 1;
     }
 }

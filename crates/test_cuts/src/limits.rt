@@ -1,10 +1,12 @@
 // Refusals and limits of the box.
-use crate::cuts::{SHEET, feed_to, verdict_number};
+use crate::cuts::{SHEET, feed_to};
 use crate::digest::{KINDS, of_box, of_bytes, of_places};
 use crate::print;
 use bar_box::BarBox;
 use recognisers::counts::{PLACES, ROW_BYTES};
-use recognisers::{LookAnswer, Thresholds, answer_in, answer_number, ordinal_in};
+use recognisers::label::code;
+use recognisers::refusals::{refusal_number, verdict_number};
+use recognisers::{Judged, Refusal, Thresholds, answer_in, answer_number};
 
 // The standard set but for the i-th threshold: x where that is a float, else n.
 pub fn changed(i: u32, x: f64, n: u32) -> Thresholds {
@@ -29,41 +31,36 @@ pub fn changed(i: u32, x: f64, n: u32) -> Thresholds {
 
 // The verdicts on thirteen makings, each with one threshold changed.
 pub fn write_makings(x: f64, n: u32) {
-    let mut i = 0u32;
-    while i < 13 {
+    for i in 0..13 {
         let made = bar_box::make(changed(i, x, n));
-        let verdict = made.verdict;
-        print::number(b" ", verdict_number(verdict));
-        i += 1;
+        print::number(b" ", u64::from(verdict_number(made.verdict)));
     }
 }
 
 // The box after a feed that has room for all rows.
-pub fn fed(b: BarBox, prices: &[f64]) -> BarBox {
+pub fn fed(mut b: BarBox, prices: &[f64]) -> BarBox {
     let mut sheet = [255u8; SHEET];
-    let out = feed_to(b, prices, &mut sheet, 0, SHEET);
-    out.after
+    let _ = feed_to(&mut b, prices, &mut sheet, 0, SHEET);
+    b
 }
 
 // A sheet with room for three bars.
 const SMALL_SHEET: usize = 3 * ROW_BYTES;
 
 // So many bytes of such a sheet are lent. Writes the verdict, then the box and the whole sheet after it.
-pub fn feed(b: BarBox, prices: &[f64], lent: usize) -> BarBox {
+pub fn feed(mut b: BarBox, prices: &[f64], lent: usize) -> BarBox {
     let mut sheet = [255u8; SMALL_SHEET];
-    let out = feed_to(b, prices, &mut sheet, 0, lent);
-    let after = out.after;
-    let verdict = out.verdict;
-    print::number(b": ", verdict_number(verdict));
-    print::number(b" count ", after.count as u64);
-    print::digest(b" box ", of_box(after));
+    let verdict = feed_to(&mut b, prices, &mut sheet, 0, lent);
+    print::number(b": ", u64::from(verdict_number(verdict)));
+    print::number(b" count ", u64::from(b.count));
+    print::digest(b" box ", of_box(b));
     print::digest(b" sheet ", of_bytes(&sheet));
-    after
+    b
 }
 
 pub fn write_places(b: BarBox) {
     let bars = b.bars;
-    print::number(b": count ", b.count as u64);
+    print::number(b": count ", u64::from(b.count));
     print::digest(b", 0 to 9 ", of_places(bars, 0, 10));
     print::digest(b", 10 to 12 ", of_places(bars, 10, 13));
     print::digest(b", 13 to 63 ", of_places(bars, 13, PLACES));
@@ -71,32 +68,28 @@ pub fn write_places(b: BarBox) {
 
 // The judged bar's ordinal; a refused look has none.
 fn write_ordinal(a: Result<Judged, Refusal>) {
-    if answer_number(answer_in(a)) < 65536 {
-        print::number(b" ordinal ", ordinal_in(a) as u64);
+    if let Ok(judged) = a {
+        print::number(b" ordinal ", u64::from(judged.ordinal));
     }
 }
 
 pub fn write_look(b: BarBox, k: u32, di: u32) {
     let a = bar_box::look(b, k, di);
-    let n = answer_number(answer_in(a)) as u64;
-    if 65536 <= n {
-        print::number(b": refused ", n - 65536);
-    } else {
-        print::number(b": v1 ", n / 256);
-        print::number(b" v2 ", n % 256);
+    match a {
+        Err(why) => print::number(b": refused ", u64::from(refusal_number(why))),
+        Ok(judged) => {
+            print::number(b": v1 ", u64::from(code(judged.pair.v1)));
+            print::number(b" v2 ", u64::from(code(judged.pair.v2)));
+        }
     }
     write_ordinal(a);
 }
 
 // Every recogniser at an offset, v1 × 256 + v2, then the ordinal, which is the same for all.
 pub fn write_looks(b: BarBox, di: u32) {
-    let mut k = 0u32;
-    while k < KINDS {
-        print::number(
-            b" ",
-            answer_number(answer_in(bar_box::look(b, k, di))) as u64,
-        );
-        k += 1;
+    for k in 0..KINDS {
+        let n = answer_number(answer_in(bar_box::look(b, k, di)));
+        print::number(b" ", u64::from(n));
     }
     write_ordinal(bar_box::look(b, 0, di));
 }

@@ -192,7 +192,7 @@ fn seen_after(seen: Seen, line: Line, prices: &[f64]) -> Seen {
             let left = cuts::run(cut_of(line), prices);
             Seen {
                 expected,
-                same: seen.same & cuts::is_same(left, expected),
+                same: seen.same & (left == expected),
             }
         }
         b's' => {
@@ -240,15 +240,13 @@ fn step(st: State, line: Line) -> State {
 fn run(script: &[u8]) {
     let mut st = start();
     let mut line = EMPTY;
-    let mut i = 0usize;
-    while i < script.len() {
-        if script[i] == b'\n' {
+    for byte in script {
+        if *byte == b'\n' {
             st = step(st, line);
             line = EMPTY;
         } else {
-            line = script::with_byte(line, script[i]);
+            line = script::with_byte(line, *byte);
         }
-        i += 1;
     }
 }
 

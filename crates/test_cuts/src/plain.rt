@@ -1,10 +1,9 @@
 // What a history leaves, told without a box: its rows and looks by the plain call over all its bars, its places by their prices, and all
 // ordinals by how many bars it has.
 use crate::cuts::{BARS, Left, SHEET};
-use crate::digest::{LOOKS, OFFSETS, mix, mix_look, mix_place, of_bytes};
+use crate::digest::{KINDS, OFFSETS, mix, mix_look, mix_place, of_bytes};
 use measures::{Bar, least};
 use recognisers::counts::{FARTHEST_LOOK, PLACES, RECOGNISERS};
-use recognisers::refusals::refusal_number;
 use recognisers::{Refusal, Thresholds, answer_number};
 
 // The plain call as a number.
@@ -16,8 +15,7 @@ fn call(prices: &[f64], k: u32, di: u32) -> u32 {
 pub fn rows(prices: &[f64]) -> [u8; SHEET] {
     let mut sheet = [255u8; SHEET];
     let pairs = RECOGNISERS * least(measures::count(prices), BARS);
-    let mut i = 0usize;
-    while i < pairs {
+    for i in 0..pairs {
         let n = call(
             measures::first_bars(prices, i / RECOGNISERS + 1),
             (i % RECOGNISERS) as u32,
@@ -25,7 +23,6 @@ pub fn rows(prices: &[f64]) -> [u8; SHEET] {
         );
         sheet[2 * i] = (n / 256 % 256) as u8;
         sheet[2 * i + 1] = (n % 256) as u8;
-        i += 1;
     }
     sheet
 }
@@ -59,10 +56,8 @@ fn ordinal_in(prices: &[f64], place: usize) -> u64 {
 
 fn of_places(prices: &[f64]) -> u64 {
     let mut d = 1;
-    let mut i = 0usize;
-    while i < PLACES {
+    for i in 0..PLACES {
         d = mix_place(d, bar_in(prices, i), ordinal_in(prices, i));
-        i += 1;
     }
     d
 }
@@ -70,7 +65,7 @@ fn of_places(prices: &[f64]) -> u64 {
 // A look at 44 is refused, where the plain call is not.
 fn look(prices: &[f64], k: u32, di: u32) -> u32 {
     if FARTHEST_LOOK < di {
-        return 65536 + refusal_number(Refusal::FarLook) as u32;
+        return answer_number(Err(Refusal::FarLook));
     }
     call(prices, k, di)
 }
@@ -93,11 +88,10 @@ fn ordinal_back(prices: &[f64], di: u32) -> u64 {
 
 fn of_looks(prices: &[f64]) -> u64 {
     let mut d = 1;
-    let mut i = 0u32;
-    while i < LOOKS {
-        let di = i % OFFSETS;
-        d = mix_look(d, look(prices, i / OFFSETS, di), ordinal_back(prices, di));
-        i += 1;
+    for k in 0..KINDS {
+        for di in 0..OFFSETS {
+            d = mix_look(d, look(prices, k, di), ordinal_back(prices, di));
+        }
     }
     d
 }
