@@ -44,7 +44,7 @@ const SIZES: [Label; 5] = [
     Label::Bars9,
 ];
 
-// The label of a window of n bars.
+// The label of a window of n bars, 5 to 9. A plain number, since the search counts with it: a type of its own would be no plainer.
 fn size_label(n: usize) -> Label
     requires { (5 ≤ n) × (n < 10) }
     ensures { result ≡ size_label n }
@@ -71,7 +71,8 @@ fn inner(s: &[f64]) -> &[f64]
     measures::last_bars(s, 2, measures::count(s).saturating_sub(2))
 }
 
-// 4: san_fa_v20221118. What the ends and the middle's extremes answer is tested before the closes are folded.
+// 4: san_fa_v20221118. What the ends and the middle's extremes answer is tested before the closes are folded. Here and for 17 a side and its
+// mirror are written out, as the rule has them: one function over comparisons that are passed in would be no plainer.
 
 fn may_rise(first: Bar, last: Bar, m: Middle) -> bool
     ensures { result ≡ may_rise first last m }
@@ -228,7 +229,7 @@ impl Shape for Tower {
     }
 }
 
-// Both
+// Both shapes
 
 // What is found of a shape with the window of n bars, after the smaller ones: few windows come so far.
 fn find_at<S: Shape>(found: Pair, w: &[f64], n: usize) -> Pair
@@ -305,8 +306,8 @@ fn try_window(ends: Both<usize>, found: Both<Pair>, w: &[f64], n: usize, m: Midd
     Both { methods, tower }
 }
 
-// The search, for both recognisers at once, from the first window's middle: each bar enters the extremes once. Whoever calls it has asked that
-// middle whether the close is beyond it, and most are not: the question stands with the callers, who pay no call for it.
+// The search, for both recognisers at once, from the first window's middle: each bar enters the extremes once. Its caller has asked that
+// middle whether the close is beyond it, and most are not.
 fn search(ends: Both<usize>, w: &[f64], first: Middle) -> Both<Pair>
     requires { first ≡ middle_at (bars_of w.now) 5 }
     ensures { result ≡ searched_of ends (bars_of w.now) 10 }
@@ -324,7 +325,8 @@ fn search(ends: Both<usize>, w: &[f64], first: Middle) -> Both<Pair>
     found
 }
 
-// What is found of both up to these sizes.
+// What is found of both up to these sizes. The question before the search stands in each caller, who pays no call for it.
+#[inline(always)]
 fn found_in(ends: Both<usize>, w: &[f64]) -> Both<Pair>
     ensures { result ≡ searched_of ends (bars_of w.now) 10 }
 {

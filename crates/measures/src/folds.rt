@@ -118,7 +118,7 @@ impl Extremes {
     }
 }
 
-// Whether a bar reaches into the lowest quarter between the extremes.
+// Whether a bar reaches into the lowest quarter between the extremes. The two sides stay apart: one function over a side would be no plainer.
 pub fn in_low_side(e: Extremes, b: Bar) -> bool
     ensures { result ≡ low_side e b }
 {
