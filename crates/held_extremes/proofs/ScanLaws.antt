@@ -4,28 +4,18 @@ use mathlib.Core.Path.{◌≡◌, refl, sym, ap, subst, ◌∙◌}
 use mathlib.Core.Bool.{Bool, true, false, cond, not, ◌&&◌}
 use mathlib.Core.List.{List, [], ◌∷◌, ◌++◌, map}
 use native.Mathlib.Omega.{arith}
-use native.Mathlib.Numerals.{add-one}
-use lib.ListN.{length, get_or, take, drop, set, replicate, length-map, drop_of_length-le, get_or-map}
-use lib.Seq.{drop-cons, set_split, drop_at, drop-set-lt, length-take-le}
+use lib.ListN.{length, get_or, take, drop, replicate, length-map, drop_of_length-le, get_or-map}
+use lib.Seq.{drop-cons}
 use lib.Ieee.{Float, is_nan}
 use Rattle.measures.specs.Bar.{Bar, no_bar}
 use Rattle.measures.specs.declared.folds.Column.{Column}
 use Rattle.measures.specs.Fold.{every_of, price_of, column_of}
-pub use Rattle.measures.proofs.Order.{reaches-up, reaches-down}
 use Rattle.measures.proofs.Order.{is-nan, both_ways}
 use Rattle.rule_types.specs.Number.{quarter_bars}
 use Rattle.held_extremes.specs.Candidate.{candidates, placed}
 use Rattle.held_extremes.proofs.CandidateLaws.{Way, SideLaws, Tells, tells-new, tells-old, length-candidates}
 use Rattle.held_extremes.proofs.HeldLaws.{length-column}
 use Rattle.held_extremes.proofs.PartLaws.{placed-part}
-
--- ---- the place before the candidates
-
-pub set_front : {A : Type 0} (l : List A) (at : ℕ) (a : A) → at < length l → drop at (set l at a) ≡ a ∷ drop (at + 1) l
-set_front l at a within = rw (set_split l at a within, add-one at) (drop_at (take at l) (a ∷ drop (suc at) l) at (length-take-le at l (omega arith)))
-
-pub set_before : {A : Type 0} (l : List A) (at : ℕ) (a : A) → drop (at + 1) (set l at a) ≡ drop (at + 1) l
-set_before l at a = drop-set-lt (at + 1) l at a (omega arith)
 
 -- ---- the scan
 
