@@ -1,6 +1,6 @@
 // The plain call over a history of bars in any form of which a bar can be made: a record, or its 32 bytes. What the rule can see is copied out as
 // prices; call::recognise, which is lent prices, copies nothing.
-ghost use Rattle.std.specs.Prelude.{◌≡◌, cond, ◌*◌, ◌≤◌, List, eqb, length, map, take};
+ghost use Rattle.std.specs.Prelude.{◌≡◌, cond, ◌*◌, ◌≤◌, eqb, length, map, take};
 ghost use Rattle.measures.specs.Bar.{Bar, bars_of};
 ghost use Rattle.measures.specs.Window.{up_to, newest};
 ghost use Rattle.rule_types.specs.Number.{gated, quarter_bars};

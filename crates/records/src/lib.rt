@@ -13,8 +13,9 @@ use recognisers::{Pair, Refusal, Thresholds, answer_number, recognise_history};
 
 // The plain call: as recognisers::recognise, which is lent prices. Records are whole bars, so that refusal 4 can't arise.
 pub fn recognise_bars(k: u32, di: u32, t: Thresholds, bars: &[Bar]) -> Result<Pair, Refusal>
-    ensures { (result ≡ plain_answer k di t true bars.now)
-        × ((refusal_in result ≡ plain_number k di t true bars.now) × (codes_in result ≡ plain_codes k di t true bars.now)) }
+    ensures answer { result ≡ plain_answer k di t true bars.now }
+    ensures number { refusal_in result ≡ plain_number k di t true bars.now }
+    ensures codes { codes_in result ≡ plain_codes k di t true bars.now }
 {
     recognise_history(k, di, t, true, bars)
 }
