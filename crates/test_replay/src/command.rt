@@ -17,6 +17,7 @@ pub enum Command {
 }
 
 // The call of eight bytes: the recogniser and the offset.
+#[tactic(auto, unfolding(crate::specs::Command::call_of))]
 fn call(s: &[u8; 8]) -> Command
     ensures { result ≡ call_of s.now }
 {

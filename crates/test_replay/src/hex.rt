@@ -1,9 +1,11 @@
 // Bytes in hexadecimal: two lowercase digits to a byte, the most significant first. The kit's crate `hex` reads uppercase digits too.
-ghost use Rattle.std.specs.Prelude.{◌≡◌};
+ghost use Rattle.std.specs.Prelude.{◌≡◌, ◌<◌, IfSome};
 ghost use Rattle.test_replay.specs.Hex.{value_of, decoded};
 
+#[tactic(auto, unfolding(crate::specs::Hex::value_of))]
 fn value(digit: u8) -> Option<u8>
-    ensures { result ≡ value_of digit }
+    ensures is { result ≡ value_of digit }
+    ensures below { IfSome result (λ v. v < 16) }
 {
     match digit {
         b'0'..=b'9' => Some(digit - b'0'),
@@ -13,6 +15,7 @@ fn value(digit: u8) -> Option<u8>
 }
 
 // The N bytes of as many pairs of digits.
+#[tactic(auto, unfolding(crate::specs::Hex::decoded))]
 pub fn decode<const N: usize>(digits: &[u8]) -> Option<[u8; N]>
     ensures { result ≡ decoded N digits.now }
 {

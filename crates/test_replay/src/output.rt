@@ -32,11 +32,15 @@ impl<W: Write> Output<W> {
     }
 
     // Where s has no room after what is held, that is handed over first. Where that fails, s is held all the same.
+    #[tactic(auto, using(crate::proofs::Laws::Output::both_fit, crate::proofs::Laws::Output::no_room))]
     pub fn write(&mut self, s: &[u8]) -> Result<()>
         ensures { self.new.held.items ≡ with_bytes self.old.held.items s.now }
     {
-        let has_room = s.len() <= self.held.remaining_capacity();
-        let flushed = if has_room { Ok(()) } else { self.flush() };
+        if s.len() <= self.held.remaining_capacity() {
+            append(&mut self.held, s);
+            return Ok(());
+        }
+        let flushed = self.flush();
         append(&mut self.held, s);
         flushed
     }

@@ -9,6 +9,7 @@ use recognisers::Thresholds;
 pub const THRESHOLDS_BYTES: usize = 60;
 
 // The thresholds of 60 bytes, with nothing between them.
+#[tactic(auto, unfolding(crate::specs::Thresholds::thresholds_of))]
 pub fn read(s: &[u8; THRESHOLDS_BYTES]) -> Thresholds
     ensures { result ≡ thresholds_of s.now }
 {

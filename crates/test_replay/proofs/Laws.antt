@@ -1,0 +1,5 @@
+-- Laws of the definitions in specs/, a module for each of its files, and of lists.
+pub mod Hex
+pub mod Lists
+pub mod Number
+pub mod Output
