@@ -4,3 +4,4 @@ pub mod Hex
 pub mod Lists
 pub mod Number
 pub mod Output
+pub mod Session

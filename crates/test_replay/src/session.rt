@@ -8,7 +8,6 @@ use crate::command::{Command, parse};
 use crate::output::Output;
 use crate::threshold_bytes::{THRESHOLDS_BYTES, read};
 use recognisers::Thresholds;
-use recognisers::export::BAR_BYTES;
 use std::io::{self, Write};
 
 // Why the replay stops before the end of the input.
@@ -70,13 +69,6 @@ impl Session {
         )
     }
 
-    // A bar for which there is no room is a bad line.
-    fn append_bar(&mut self, bar: &[u8; BAR_BYTES]) -> Result<(), Stop> {
-        self.history
-            .try_extend_from_slice(bar)
-            .map_err(|_| Stop::BadLine(self.ended))
-    }
-
     // Does what the line that has ended asks for, and begins the next.
     fn end_line<W: Write>(&mut self, output: &mut Output<W>) -> Result<(), Stop>
         ensures executes { Executes self.old self.old.line.items result self.new }
@@ -88,7 +80,11 @@ impl Session {
         self.ended = self.ended.wrapping_add(1);
         match command.ok_or(Stop::BadLine(self.ended))? {
             Command::New => self.history.clear(),
-            Command::Bar(bar) => self.append_bar(&bar)?,
+            // A bar for which there is no room is a bad line.
+            Command::Bar(bar) => self
+                .history
+                .try_extend_from_slice(&bar)
+                .or(Err(Stop::BadLine(self.ended)))?,
             Command::Thresholds(thresholds) => self.thresholds = thresholds,
             Command::Call { recogniser, offset } => {
                 output.write_number(u64::from(self.label(recogniser, offset)))?;
