@@ -7,7 +7,7 @@
 // line of any other form the program writes 'bad line N', counted from 1, and stops.
 //
 // Every function is proved safe and ending. What a line does to the history and to the thresholds is proved too
-// (specs/Session.antt); that the answers written are those of jcc_label can be read off `call`.
+// (specs/Session.antt); that the answers written are those of jcc_label can be read off `end_line`.
 #![tactic(auto)]
 
 mod buffer;

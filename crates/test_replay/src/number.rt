@@ -14,7 +14,7 @@ fn array_at<const N: usize>(s: &[u8], at: usize) -> [u8; N]
 
 // The u32 of the four bytes from a place on.
 #[tactic(auto, unfolding(crate::specs::Number::u32_at, recognisers::specs::Export::little_endian))]
-pub fn u32_at(s: &[u8], at: usize) -> u32
+pub(crate) fn u32_at(s: &[u8], at: usize) -> u32
     requires { at + 4 ≤ length s.now }
     ensures { result ≡ u32_at s.now at }
 {
@@ -22,7 +22,7 @@ pub fn u32_at(s: &[u8], at: usize) -> u32
 }
 
 // The f64 of the eight bytes from a place on.
-pub fn f64_at(s: &[u8], at: usize) -> f64
+pub(crate) fn f64_at(s: &[u8], at: usize) -> f64
     requires { at + 8 ≤ length s.now }
     ensures { result ≡ f64_at s.now at }
 {

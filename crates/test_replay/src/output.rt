@@ -45,7 +45,7 @@ impl<W: Write> Output<W> {
         flushed
     }
 
-    // A number in decimal, and a line feed.
+    // A number in decimal, with the digits of `io` that WithNumber names, and a line feed. Both are held, whatever writes fail.
     pub fn write_number(&mut self, n: u64) -> Result<()>
         ensures { WithNumber self.old.held.items n self.new.held.items }
     {

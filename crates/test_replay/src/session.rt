@@ -1,5 +1,6 @@
 // The state between two lines, and what a line does to it.
 ghost use Rattle.std.specs.Prelude.{◌≡◌, [], replicate};
+ghost use Rattle.test_replay.specs.Hex.{longest};
 ghost use Rattle.test_replay.specs.Session.{Executes};
 ghost use Rattle.test_replay.specs.Thresholds.{thresholds_of};
 
@@ -37,7 +38,7 @@ impl Session {
     pub fn new() -> Self
         ensures line_value { result.line.items ≡ [] }
         ensures history_value { result.history.items ≡ [] }
-        ensures thresholds_value { result.thresholds ≡ thresholds_of (replicate 60 0) }
+        ensures thresholds_value { result.thresholds ≡ thresholds_of (replicate longest 0) }
     {
         Session {
             line: Buffer::new(),
@@ -47,6 +48,7 @@ impl Session {
         }
     }
 
+    // jcc_label is exported to C, and takes the thresholds one by one.
     fn label(&self, recogniser: u32, offset: u32) -> u32 {
         let t = self.thresholds;
         recognisers::jcc_label(

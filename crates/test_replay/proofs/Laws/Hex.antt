@@ -1,5 +1,5 @@
 -- Laws of hexadecimal, by which the loop of `decode` goes. Assumes nothing.
-use Rattle.std.proofs.Common.{◌≡◌, ◌≢◌, ℕ, suc, zero, ◌+◌, ◌-◌, ◌*◌, ◌/◌, ◌%◌, ◌<◌, ◌≤◌, Bool, true, false, cond, ltb, Option, Some, None, List, [], ◌∷◌, ◌++◌, length, get_or, take, drop, replicate, set, sym, refl, ap, ◌∙◌, append_assoc, append-nil, add-one, arith, length-set, length-append, length-take-le, take_all, ltb-false, ltb-true, le-leb, eq-eqb, ne_eqb}
+use Rattle.std.proofs.Common.{◌≡◌, ◌≢◌, ℕ, suc, zero, ◌+◌, ◌-◌, ◌*◌, ◌/◌, ◌%◌, ◌<◌, ◌≤◌, Bool, true, false, ltb, Option, Some, None, List, [], ◌∷◌, ◌++◌, length, get_or, take, drop, replicate, set, refl, ap, append_assoc, append-nil, add-one, arith, length-set, length-take-le, take_all, ltb-false, ltb-true, le-leb, eq-eqb, ne_eqb}
 use mathlib.Core.Bool.{and-false}
 use borrow.Author.Tests.{lt-leb}
 use Rattle.std.proofs.Math.Seq.{drop-cons, take-suc-set}

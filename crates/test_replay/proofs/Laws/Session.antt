@@ -1,5 +1,5 @@
 -- Laws of what a line does to a session. Assumes nothing.
-use Rattle.std.proofs.Common.{◌≡◌, ℕ, ◌+◌, ◌<◌, ◌≤◌, true, false, Option, Some, None, Result, Ok, Err, List, ◌++◌, length, nat_lt, refl, sym, arith, le-leb, le-ltb, leb-false}
+use Rattle.std.proofs.Common.{◌≡◌, ℕ, ◌+◌, ◌<◌, ◌≤◌, true, false, Option, Result, Ok, Err, List, ◌++◌, length, nat_lt, refl, sym, arith, le-leb, le-ltb}
 use mathlib.Core.Bool.{false≢true}
 use borrow.Author.Tests.{lt-leb}
 use Rattle.std.specs.Result.{is_ok, IsOk, OnOk, OnErr, result_or}

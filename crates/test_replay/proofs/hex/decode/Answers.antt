@@ -1,5 +1,5 @@
 -- `hex::decode` meets its contract. Assumes nothing.
-use Rattle.std.proofs.Common.{◌%◌, ◌≡◌, length, sym, ◌∙◌, arith, eqb-true}
+use Rattle.std.proofs.Common.{◌≡◌, length, sym, ◌∙◌, arith, eqb-true}
 use Rattle.test_replay.proofs.Laws.Hex.{decoding-none, decoding-more, no-high, no-low, whole}
 use Rattle.test_replay.proofs.hex.decode.Goals as goal
 

@@ -1,11 +1,11 @@
 -- `session::Session::end_line` meets its contract. Each arm of the match says what the line asks for. Assumes nothing.
 use mathlib.Core.Bool.{false≢true}
-use Rattle.std.proofs.Common.{◌≡◌, Option, Some, None, length, refl, sym, ap, ◌∙◌, arith}
+use Rattle.std.proofs.Common.{◌≡◌, Some, None, length, refl, sym, ap, ◌∙◌, arith}
 use Rattle.std.proofs.lemmas.Result.{err_from_is_err_and}
 use Rattle.recognisers.specs.Export.{bar_bytes}
 use Rattle.test_replay.specs.Command.{command_of}
 use Rattle.test_replay.specs.Session.{history_after, thresholds_after, is_refused}
-use Rattle.test_replay.specs.declared.command.Command.TheVariants.{New, Bar, Thresholds, Call}
+use Rattle.test_replay.specs.declared.command.Command.TheVariants.{New}
 use Rattle.test_replay.proofs.Laws.Session.{executes, bar-kept, bar-refused, or-ok, or-err}
 use Rattle.test_replay.proofs.session.Session.end_line.Goals as goal
 
