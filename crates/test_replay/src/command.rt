@@ -1,66 +1,41 @@
 // What a line asks for.
-ghost use Rattle.std.specs.Prelude.{◌≡◌, ◌≤◌};
-ghost use Rattle.test_replay.specs.Command.{is_new, has_form, command_of};
-ghost use Rattle.test_replay.specs.Hex.{longest};
+ghost use Rattle.std.specs.Prelude.{◌≡◌};
+ghost use Rattle.test_replay.specs.Command.{call_of, command_of};
 
 use crate::hex::decode;
+use crate::number::u32_at;
+use crate::threshold_bytes::read;
+use recognisers::Thresholds;
 use recognisers::export::BAR_BYTES;
 
 #[derive(Clone, Copy)]
 pub enum Command {
     New,
-    Bar,
-    Thresholds,
-    Call,
-    Bad,
+    Bar([u8; BAR_BYTES]),
+    Thresholds(Thresholds),
+    Call { recogniser: u32, offset: u32 },
 }
 
-// How many bytes the thresholds and a call are.
-const THRESHOLDS: usize = 60;
-
-const CALL: usize = 8;
-
-fn is_new(line: &[u8]) -> bool
-    ensures { result ≡ is_new line.now }
+// The call of eight bytes: the recogniser and the offset.
+#[tactic(auto, unfolding(crate::specs::Command::call_of))]
+fn call(s: &[u8; 8]) -> Command
+    ensures { result ≡ call_of s.now }
 {
-    if line.len() == 1 {
-        line[0] == b'n'
-    } else {
-        false
+    Command::Call {
+        recogniser: u32_at(s, 0),
+        offset: u32_at(s, 4),
     }
 }
 
-// Whether a line is a letter, a space and so many bytes in hexadecimal.
-fn has_form(line: &[u8], letter: u8, size: usize) -> bool
-    requires { size ≤ longest }
-    ensures { result ≡ has_form line.now letter size }
-{
-    if line.len() != 2 + 2 * size {
-        return false;
-    }
-    if line[0] != letter {
-        return false;
-    }
-    if line[1] != b' ' {
-        return false;
-    }
-    decode(line).len == size
-}
-
-pub fn parse(line: &[u8]) -> Command
+// A letter alone, or a letter, a space and as many bytes in hexadecimal as that letter wants.
+pub fn parse(line: &[u8]) -> Option<Command>
     ensures { result ≡ command_of line.now }
 {
-    if is_new(line) {
-        return Command::New;
+    match line {
+        b"n" => Some(Command::New),
+        [b'b', b' ', digits @ ..] => Some(Command::Bar(decode(digits)?)),
+        [b't', b' ', digits @ ..] => Some(Command::Thresholds(read(&decode(digits)?))),
+        [b'c', b' ', digits @ ..] => Some(call(&decode(digits)?)),
+        _ => None,
     }
-    if has_form(line, b'b', BAR_BYTES) {
-        return Command::Bar;
-    }
-    if has_form(line, b't', THRESHOLDS) {
-        return Command::Thresholds;
-    }
-    if has_form(line, b'c', CALL) {
-        return Command::Call;
-    }
-    Command::Bad
 }

@@ -1,52 +1,31 @@
-// Bytes in hexadecimal: two lowercase digits to a byte, the most significant first.
-ghost use Rattle.std.specs.Prelude.{◌≡◌, length, take, slice_index};
-ghost use Rattle.test_replay.specs.Hex.{value_of, payload_of};
+// Bytes in hexadecimal: two lowercase digits to a byte, the most significant first. The kit's crate `hex` reads uppercase digits too.
+ghost use Rattle.std.specs.Prelude.{◌≡◌, ◌<◌, IfSome};
+ghost use Rattle.test_replay.specs.Hex.{value_of, decoded};
 
-// The most bytes that a line has in hexadecimal.
-pub const LONGEST: usize = 60;
-
-#[derive(Clone, Copy)]
-pub struct Decoded {
-    pub bytes: [u8; LONGEST],
-    pub len: usize,
-}
-
-// The value of a digit, and 16 for any other byte.
-fn value(b: u8) -> u8
-    ensures { result ≡ value_of b }
+#[tactic(auto, unfolding(crate::specs::Hex::value_of))]
+fn value(digit: u8) -> Option<u8>
+    ensures is { result ≡ value_of digit }
+    ensures below { IfSome result (λ v. v < 16) }
 {
-    match b {
-        b'0'..=b'9' => b - b'0',
-        b'a'..=b'f' => b - b'a' + 10,
-        _ => 16,
+    match digit {
+        b'0'..=b'9' => Some(digit - b'0'),
+        b'a'..=b'f' => Some(digit - b'a' + 10),
+        _ => None,
     }
 }
 
-// The value of the digit at a place of s, and 16 past its end.
-fn value_at(s: &[u8], at: usize) -> u8
-    ensures { result ≡ value_of (slice_index s.now at) }
+// The N bytes of as many pairs of digits.
+#[tactic(auto, unfolding(crate::specs::Hex::decoded))]
+pub fn decode<const N: usize>(digits: &[u8]) -> Option<[u8; N]>
+    ensures { result ≡ decoded N digits.now }
 {
-    if at < s.len() { value(s[at]) } else { 16 }
-}
-
-// The bytes that a line has after its letter and its space, up to the first pair that is not two digits.
-pub fn decode(line: &[u8]) -> Decoded
-    ensures bytes_value { take result.len result.bytes ≡ payload_of line.now }
-    ensures len_value { result.len ≡ length (payload_of line.now) }
-{
-    let mut bytes = [0u8; LONGEST];
-    let mut i = 0usize;
-    while i < LONGEST {
-        let high = value_at(line, 2 * i + 2);
-        if 16 <= high {
-            return Decoded { bytes, len: i };
-        }
-        let low = value_at(line, 2 * i + 3);
-        if 16 <= low {
-            return Decoded { bytes, len: i };
-        }
-        bytes[i] = 16 * high + low;
-        i += 1;
+    let (pairs, rest) = digits.as_chunks::<2>();
+    if pairs.len() != N || !rest.is_empty() {
+        return None;
     }
-    Decoded { bytes, len: i }
+    let mut bytes = [0; N];
+    for (i, [high, low]) in pairs.iter().enumerate() {
+        bytes[i] = 16 * value(*high)? + value(*low)?;
+    }
+    Some(bytes)
 }

@@ -7,7 +7,7 @@
 // line of any other form the program writes 'bad line N', counted from 1, and stops.
 //
 // Every function is proved safe and ending. What a line does to the history and to the thresholds is proved too
-// (specs/Session.antt); that the answers written are those of jcc_label can be read off `call`.
+// (specs/Session.antt); that the answers written are those of jcc_label can be read off `end_line`.
 #![tactic(auto)]
 
 mod buffer;
@@ -18,35 +18,40 @@ mod output;
 mod session;
 mod threshold_bytes;
 
-use session::Session;
-use std::io::Read;
+use output::Output;
+use session::{Session, Stop};
+use std::io::{self, Read, Write};
 
-// Reads once. Where nothing comes, the input has ended.
-fn read_some(session: Session, input: &mut impl Read) -> Session {
-    let mut buf = [0u8; 4096];
-    let n = input.read(&mut buf).unwrap_or(0);
-    if n == 0 {
-        let mut next = session;
-        next.reading = false;
-        return next;
+// Reads up to the end of the input or a bad line. Where a read fails, the input has ended.
+fn replay<W: Write>(input: &mut impl Read, output: &mut Output<W>) -> Result<(), Stop> {
+    let mut session = Session::new();
+    let mut bytes = [0; 4096];
+    // A proved loop has to end, and nothing says that the input does: the loop takes as many turns as no run uses up.
+    for _ in 0..u64::MAX {
+        let n = input.read(&mut bytes).unwrap_or(0);
+        if n == 0 {
+            break;
+        }
+        session.feed(&bytes[..n], output)?;
     }
-    session.feed(&buf[..n])
+    session.finish()
 }
 
-// A proved loop has to end, and nothing says that the input does: the loop takes as many turns as no run uses up.
-fn read_all(input: &mut impl Read) -> Session {
-    let mut session = Session::new();
-    for _ in 0..u64::MAX {
-        session = read_some(session, input);
-        if !session.reading {
-            return session;
+// After a write that failed nothing more is written.
+fn run<W: Write>(input: &mut impl Read, output: &mut Output<W>) -> io::Result<()> {
+    match replay(input, output) {
+        Ok(()) => {}
+        Err(Stop::BadLine(n)) => {
+            output.write(b"bad line ")?;
+            output.write_number(n)?;
         }
+        Err(Stop::Output(e)) => return Err(e),
     }
-    session
+    output.flush()
 }
 
 fn main(rt: HostRuntime) {
-    let session = read_all(&mut rt.reader()).finish();
-    let output = session.output;
-    output.flush();
+    let mut output = Output::new(io::writer(&rt));
+    // Nobody is there to be told that a write failed.
+    let _ = run(&mut rt.reader(), &mut output);
 }

@@ -1,75 +1,58 @@
-// Standard output, written a buffer at a time: a write for each answer would be slow.
+// Output, written a buffer at a time: a write for each answer would be slow, and std's BufWriter has its buffer on the heap.
 ghost use Rattle.std.specs.Prelude.{◌≡◌, []};
-ghost use Rattle.test_replay.specs.Buffer.{content};
 ghost use Rattle.test_replay.specs.Output.{with_bytes, WithNumber};
 
-use crate::buffer::{Buffer, CAPACITY};
+use crate::buffer::{Buffer, append};
+use io::decimal;
+use std::io::{Result, Write};
 
-// The descriptor of standard output.
-const STDOUT_FILENO: i32 = 1;
-
-#[derive(Clone, Copy)]
-pub struct Output {
-    pub held: Buffer,
-    pub failed: bool,
+#[derive(Drop)]
+pub struct Output<W> {
+    writer: W,
+    held: Buffer,
 }
 
-impl Output {
-    pub fn new() -> Self
-        ensures { content result.held ≡ [] }
+impl<W: Write> Output<W> {
+    pub fn new(writer: W) -> Self
+        ensures { result.held.items ≡ [] }
     {
         Output {
+            writer,
             held: Buffer::new(),
-            failed: false,
         }
     }
 
-    // Hands over what is held. After a write that failed it writes nothing more.
-    pub fn flush(self) -> Self
-        ensures { content result.held ≡ [] }
+    // Hands over what is held.
+    pub fn flush(&mut self) -> Result<()>
+        ensures { self.new.held.items ≡ [] }
     {
-        let held = self.held;
-        let bytes = held.bytes;
-        let n = held.size();
-        let empty = Buffer::new();
-        if self.failed {
-            return Output {
-                held: empty,
-                failed: true,
-            };
-        }
-        let is_written = io::write_all(STDOUT_FILENO, &bytes[..n]);
-        Output {
-            held: empty,
-            failed: !is_written,
-        }
+        let written = self.writer.write_all(self.held.as_slice());
+        self.held.clear();
+        written
     }
 
-    // Where s has no room after what is held, that is handed over first.
-    pub fn write(self, s: &[u8]) -> Self
-        ensures { content result.held ≡ with_bytes (content self.held) s.now }
+    // Where s has no room after what is held, that is handed over first. Where that fails, s is held all the same.
+    #[tactic(auto, using(crate::proofs::Laws::Output::both_fit, crate::proofs::Laws::Output::no_room))]
+    pub fn write(&mut self, s: &[u8]) -> Result<()>
+        ensures { self.new.held.items ≡ with_bytes self.old.held.items s.now }
     {
-        let held = self.held;
-        if s.len() <= CAPACITY - held.size() {
-            return Output {
-                held: held.append(s),
-                failed: self.failed,
-            };
+        if s.len() <= self.held.remaining_capacity() {
+            append(&mut self.held, s);
+            return Ok(());
         }
         let flushed = self.flush();
-        let empty = flushed.held;
-        Output {
-            held: empty.append(s),
-            failed: flushed.failed,
-        }
+        append(&mut self.held, s);
+        flushed
     }
 
-    // A number in decimal, and a line feed.
-    pub fn write_number(self, n: u64) -> Self
-        ensures { WithNumber (content self.held) n (content result.held) }
+    // A number in decimal, with the digits of `io` that WithNumber names, and a line feed. Both are held, whatever writes fail.
+    pub fn write_number(&mut self, n: u64) -> Result<()>
+        ensures { WithNumber self.old.held.items n self.new.held.items }
     {
-        let mut digits = [0u8; 20];
-        let count = io::decimal(n, &mut digits);
-        self.write(&digits[..count]).write(b"\n")
+        let mut digits = [0; 20];
+        let count = decimal(n, &mut digits);
+        let number = self.write(&digits[..count]);
+        let end = self.write(b"\n");
+        number.and(end)
     }
 }

@@ -1,99 +1,56 @@
 // The state between two lines, and what a line does to it.
-ghost use Rattle.std.specs.Prelude.{◌≡◌, ◌+◌, ◌<◌, ◌≤◌, true, false, [], length, take, replicate};
-ghost use Rattle.test_replay.specs.Buffer.{capacity, content};
-ghost use Rattle.recognisers.specs.Export.{bar_bytes};
+ghost use Rattle.std.specs.Prelude.{◌≡◌, [], replicate};
 ghost use Rattle.test_replay.specs.Hex.{longest};
-ghost use Rattle.test_replay.specs.Line.{EndsAt};
-ghost use Rattle.test_replay.specs.Session.{with_bar, Keeps, Executes};
+ghost use Rattle.test_replay.specs.Session.{Executes};
 ghost use Rattle.test_replay.specs.Thresholds.{thresholds_of};
 
-use crate::buffer::{Buffer, CAPACITY};
+use crate::buffer::{Buffer, append};
 use crate::command::{Command, parse};
-use crate::hex::{LONGEST, decode};
-use crate::number::u32_at;
 use crate::output::Output;
-use crate::threshold_bytes::read;
+use crate::threshold_bytes::{THRESHOLDS_BYTES, read};
 use recognisers::Thresholds;
-use recognisers::export::BAR_BYTES;
+use std::io::{self, Write};
 
-#[derive(Clone, Copy)]
-pub struct Session {
-    // The line that has begun, and how many lines have ended.
-    pub line: Buffer,
-    pub ended: u64,
-    pub history: Buffer,
-    pub thresholds: Thresholds,
-    pub output: Output,
-    // False after the end of the input, a bad line and a write that failed.
-    pub reading: bool,
+// Why the replay stops before the end of the input.
+#[derive(Drop)]
+pub enum Stop {
+    // The line of this number, counted from 1, is bad.
+    BadLine(u64),
+    Output(io::Error),
 }
 
-// Where the first line feed of s from a place on stands, and the length of s where there is none.
-fn line_end(s: &[u8], from: usize) -> usize
-    requires { from ≤ length s.now }
-    ensures { EndsAt s.now from result }
-{
-    let mut i = from;
-    while i < s.len() {
-        if s[i] == b'\n' {
-            return i;
-        }
-        i += 1;
+impl From<io::Error> for Stop {
+    fn from(e: io::Error) -> Stop {
+        Stop::Output(e)
     }
-    i
+}
+
+#[derive(Drop)]
+pub struct Session {
+    // The line that has begun, and how many lines have ended.
+    line: Buffer,
+    ended: u64,
+    history: Buffer,
+    thresholds: Thresholds,
 }
 
 impl Session {
     pub fn new() -> Self
-        ensures line_value { content result.line ≡ [] }
-        ensures history_value { content result.history ≡ [] }
+        ensures line_value { result.line.items ≡ [] }
+        ensures history_value { result.history.items ≡ [] }
         ensures thresholds_value { result.thresholds ≡ thresholds_of (replicate longest 0) }
     {
-        let zeros = [0u8; LONGEST];
         Session {
             line: Buffer::new(),
             ended: 0,
             history: Buffer::new(),
-            thresholds: read(&zeros),
-            output: Output::new(),
-            reading: true,
+            thresholds: read(&[0; THRESHOLDS_BYTES]),
         }
     }
 
-    // Names the line that has just ended, and stops.
-    fn refuse(self) -> Self
-        ensures keeps { Keeps self result }
-        ensures reading_value { result.reading ≡ false }
-    {
-        let output = self.output;
-        let named = output.write(b"bad line ").write_number(self.ended);
-        let mut next = self;
-        next.output = named;
-        next.reading = false;
-        next
-    }
-
-    // A bar for which there is no room is a bad line.
-    fn append_bar(self, bytes: [u8; LONGEST]) -> Self
-        ensures history_value { content result.history ≡ with_bar (content self.history) (take bar_bytes bytes) }
-        ensures thresholds_value { result.thresholds ≡ self.thresholds }
-        ensures reading_value { capacity < length (content self.history) + bar_bytes → result.reading ≡ false }
-    {
-        let history = self.history;
-        if CAPACITY - history.size() < BAR_BYTES {
-            return self.refuse();
-        }
-        let longer = history.append(&bytes[..BAR_BYTES]);
-        let mut next = self;
-        next.history = longer;
-        next
-    }
-
-    fn label(self, recogniser: u32, offset: u32) -> u32 {
+    // jcc_label is exported to C, and takes the thresholds one by one.
+    fn label(&self, recogniser: u32, offset: u32) -> u32 {
         let t = self.thresholds;
-        let history = self.history;
-        let bytes = history.bytes;
-        let n = history.size();
         recognisers::jcc_label(
             recogniser,
             offset,
@@ -110,96 +67,54 @@ impl Session {
             t.th10,
             t.th13,
             t.th14,
-            &bytes[..n],
+            self.history.as_slice(),
         )
     }
 
-    // A call's bytes are the recogniser and the offset.
-    fn call(self, bytes: [u8; LONGEST]) -> Self
-        ensures { Keeps self result }
+    // Does what the line that has ended asks for, and begins the next.
+    fn end_line<W: Write>(&mut self, output: &mut Output<W>) -> Result<(), Stop>
+        ensures executes { Executes self.old self.old.line.items result self.new }
+        ensures line_value { self.new.line.items ≡ [] }
     {
-        let code = self.label(u32_at(&bytes, 0), u32_at(&bytes, 4));
-        let output = self.output;
-        let longer = output.write_number(code as u64);
-        let mut next = self;
-        next.output = longer;
-        next.reading = !longer.failed;
-        next
-    }
-
-    fn execute(self, line: &[u8]) -> Self
-        ensures { Executes self line.now result }
-    {
-        let bytes = decode(line).bytes;
-        let mut next = self;
-        match parse(line) {
-            Command::New => {
-                let empty = Buffer::new();
-                next.history = empty;
-                next
-            }
-            Command::Bar => self.append_bar(bytes),
-            Command::Thresholds => {
-                let t = read(&bytes);
-                next.thresholds = t;
-                next
-            }
-            Command::Call => self.call(bytes),
-            Command::Bad => self.refuse(),
-        }
-    }
-
-    // Counts the line that has ended, and begins the next.
-    fn next_line(self) -> Self
-        ensures keeps { Keeps self result }
-        ensures line_value { content result.line ≡ [] }
-    {
-        let empty = Buffer::new();
-        let mut next = self;
-        next.line = empty;
+        let command = parse(self.line.as_slice());
+        self.line.clear();
         // No input has as many as 2^64 lines.
-        next.ended = std::num::wrapping_add_u64(self.ended, 1);
-        next
-    }
-
-    fn end_line(self) -> Self
-        ensures { Executes self (content self.line) result }
-    {
-        let line = self.line;
-        let bytes = line.bytes;
-        let n = line.size();
-        self.next_line().execute(&bytes[..n])
+        self.ended = self.ended.wrapping_add(1);
+        match command.ok_or(Stop::BadLine(self.ended))? {
+            Command::New => self.history.clear(),
+            // A bar for which there is no room is a bad line.
+            Command::Bar(bar) => self
+                .history
+                .try_extend_from_slice(&bar)
+                .or(Err(Stop::BadLine(self.ended)))?,
+            Command::Thresholds(thresholds) => self.thresholds = thresholds,
+            Command::Call { recogniser, offset } => {
+                output.write_number(u64::from(self.label(recogniser, offset)))?;
+            }
+        }
+        Ok(())
     }
 
     // The bytes of one read: the rest of a line, lines, and the start of one.
-    pub fn feed(self, s: &[u8]) -> Self {
-        let mut session = self;
-        let mut from = 0;
-        while from < s.len() {
-            let end = line_end(s, from);
-            let line = session.line;
-            let longer = line.append(&s[from..end]);
-            session.line = longer;
-            if s.len() <= end {
-                return session;
+    pub fn feed<W: Write>(&mut self, s: &[u8], output: &mut Output<W>) -> Result<(), Stop> {
+        for part in s.split_inclusive(|b| *b == b'\n') {
+            match part {
+                [rest @ .., b'\n'] => {
+                    append(&mut self.line, rest);
+                    self.end_line(output)?;
+                }
+                _ => append(&mut self.line, part),
             }
-            session = session.end_line();
-            if !session.reading {
-                return session;
-            }
-            from = end + 1;
         }
-        session
+        Ok(())
     }
 
     // A line that the end of the input cuts off is bad.
-    pub fn finish(self) -> Self
-        ensures { Keeps self result }
-    {
-        let line = self.line;
-        if 0 < line.size() {
-            return self.next_line().refuse();
+    pub fn finish(&self) -> Result<(), Stop> {
+        if self.line.is_empty() {
+            Ok(())
+        } else {
+            Err(Stop::BadLine(self.ended.wrapping_add(1)))
         }
-        self
     }
 }

@@ -2,12 +2,15 @@
 ghost use Rattle.std.specs.Prelude.{◌≡◌};
 ghost use Rattle.test_replay.specs.Thresholds.{thresholds_of};
 
-use crate::hex::LONGEST;
 use crate::number::{f64_at, u32_at};
 use recognisers::Thresholds;
 
+// How many bytes the thresholds are.
+pub const THRESHOLDS_BYTES: usize = 60;
+
 // The thresholds of 60 bytes, with nothing between them.
-pub fn read(s: &[u8; LONGEST]) -> Thresholds
+#[tactic(auto, unfolding(crate::specs::Thresholds::thresholds_of))]
+pub fn read(s: &[u8; THRESHOLDS_BYTES]) -> Thresholds
     ensures { result ≡ thresholds_of s.now }
 {
     Thresholds {

@@ -4,9 +4,9 @@ use borrow.Author.Tests.{lt-leb}
 use Rattle.test_replay.specs.Buffer.{capacity}
 use Rattle.test_replay.specs.Output.{with_bytes}
 
-pub both-fit : (held s : List ℕ) → length held + length s ≤ capacity → take capacity (held ++ s) ≡ with_bytes held s
+pub both_fit : (held s : List ℕ) → length held + length s ≤ capacity → take capacity (held ++ s) ≡ with_bytes held s
 unfolding with_bytes
-both-fit held s h =
+both_fit held s h =
     let all : length (held ++ s) ≤ capacity = simp length-append (omega arith) in rw (le-leb _ _ h, take_all capacity (held ++ s) all)
 
 pub no_room : (held s : List ℕ) → capacity < length held + length s → take capacity s ≡ with_bytes held s

@@ -1,37 +1,22 @@
--- `replay::hex::decode` meets its contract. Assumes nothing.
-use Rattle.std.proofs.Common.{◌+◌, ◌*◌, ◌<◌, ◌≤◌, get_or, refl, arith}
-use Rattle.test_replay.specs.Hex.{value_of}
-use Rattle.test_replay.proofs.Laws.Hex.{pair, no-high, no-low, decoding-more, payload-end, payload-full}
+-- `hex::decode` meets its contract. Assumes nothing.
+use Rattle.std.proofs.Common.{◌≡◌, length, sym, ◌∙◌, arith, eqb-true}
+use Rattle.test_replay.proofs.Laws.Hex.{decoding-none, decoding-more, no-high, no-low, whole}
 use Rattle.test_replay.proofs.hex.decode.Goals as goal
 
 pub loop-i-init : goal.loop-i-init
-loop-i-init c = record { within = omega arith; room = refl; found = refl }
+loop-i-init g c =
+    let e = c.as_chunks.ensures in
+    let none : length c.as_chunks.result.1.now ≡ 0 = eqb-true _ _ (sym c.is_empty.ensures ∙ c.if-not-is_empty.false) in
+    decoding-none g.row.N c.args.digits.now c.as_chunks.result.0.now e.front e.front_len (omega (arith, e.back_len)) c.if-pairs.false
 
-pub returns-then-high-ge16 : goal.returns-then-high-ge16
-returns-then-high-ge16 c =
-    let now = c.loop-i in
-    let line = c.args.line.now in
-    let high : 16 ≤ value_of (get_or line (2 * now.i + 2) 0) = omega arith in
-    let all = payload-end now.invariant (no-high line now.i high) in
-    record { bytes_value = all.0; len_value = all.1 }
+pub returns-in_err-value : goal.returns-in_err-value
+returns-in_err-value g c = c.from_residual.ensures ∙ no-high c.loop-i.invariant (omega arith) (sym c.value.ensures.is ∙ c.in_err-value.was)
 
-pub returns-then-low-ge16 : goal.returns-then-low-ge16
-returns-then-low-ge16 c =
-    let now = c.loop-i in
-    let line = c.args.line.now in
-    let high : value_of (get_or line (2 * now.i + 2) 0) < 16 = omega arith in
-    let low : 16 ≤ value_of (get_or line (2 * now.i + 3) 0) = omega arith in
-    let all = payload-end now.invariant (no-low line now.i high low) in
-    record { bytes_value = all.0; len_value = all.1 }
+pub returns-in_err-bytes : goal.returns-in_err-bytes
+returns-in_err-bytes g c = c.from_residual-in_err-bytes.ensures ∙ no-low c.loop-i.invariant _ (omega arith) (sym c.value.ensures.is ∙ c.in_ok-value.was) (sym c.value-in-loop-i.ensures.is ∙ c.in_err-bytes.was)
 
 pub loop-i-preserved : goal.loop-i-preserved
-loop-i-preserved c =
-    let now = c.loop-i in
-    let line = c.args.line.now in
-    let high : value_of (get_or line (2 * now.i + 2) 0) < 16 = omega arith in
-    let low : value_of (get_or line (2 * now.i + 3) 0) < 16 = omega arith in
-    decoding-more now.invariant _ (omega arith) (rw (c.value_at-high.ensures, c.value_at-low.ensures) (pair line now.i high low))
+loop-i-preserved g c = decoding-more c.loop-i.invariant _ _ (omega arith) (sym c.value.ensures.is ∙ c.in_ok-value.was) (sym c.value-in-loop-i.ensures.is ∙ c.in_ok-bytes.was)
 
 pub returns : goal.returns
-returns c = let all = payload-full c.loop-i.invariant (omega arith) in
-    record { bytes_value = all.0; len_value = all.1 }
+returns g c = whole c.loop-i.invariant (omega arith)
