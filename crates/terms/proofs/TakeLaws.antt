@@ -1,6 +1,6 @@
 -- What the calls take in, as the code goes by the verdict: nothing of a refused one; of an accepted run first the bars that end no term bar, and
 -- then the others; of an accepted close the open bar. And what making leaves. Assumes nothing.
-use Rattle.std.specs.Prelude.{Err, Ok}
+use Rattle.std.specs.Prelude.{Option, Some, None, Err, Ok}
 use Rattle.answers.specs.Refusal.{Verdict}
 use Prim.Native.Nat.{ℕ, ◌≤◌}
 use mathlib.Core.Path.{◌≡◌, refl, ap, sym, ◌∙◌}
@@ -26,7 +26,6 @@ use Rattle.trading_hours.specs.declared.hours.Hours.{Hours}
 use Rattle.trading_hours.specs.Hours.{with_zeros}
 use Rattle.trading_hours.proofs.HourLaws.{term-some}
 use Rattle.term_events.specs.declared.events.{Passed.Passed}
-use Rattle.term_events.specs.declared.events.OpenBar.{OpenBar, TheVariants.Nothing, TheVariants.Begun}
 use Rattle.term_events.specs.Events.{Event, Close, nothing_yet, carried_with, open_bars, ended_of, carried_of, minutes_of}
 use Rattle.term_events.specs.Verdicts.{make_verdict}
 use Rattle.term_events.specs.EventSteps.{Ready, end_after, pass_of}
@@ -160,22 +159,22 @@ module _ (l : Layer) (sheet : List ℕ) where
   shut-ended : ended_in l shut ≡ open_bars l.carried.pending
   shut-ended = ended-one l.hours l.minutes l.carried Close
 
-  pub closed_none : length l.inner.bars ≡ places → (v : Verdict) → close_verdict_of l (length sheet) ≡ v → leaves v Nothing l.carried.pending ≡ Nothing
+  pub closed_none : length l.inner.bars ≡ places → (v : Verdict) → close_verdict_of l (length sheet) ≡ v → leaves v None l.carried.pending ≡ None
       → (taken v 0 l ≡ closed_of l (length sheet)) × (sheet ≡ closed_sheet l sheet)
   unfolding closed_of closed_sheet carried_of rows_of
   closed_none all (Ok tt) e none =
       let ended : ended_in l shut ≡ [] = shut-ended ∙ ap open_bars none in
       let feed = call-feed _ _ _ _ _ (Shut sheet) e in
       let box : (fed_of l.inner (prices_of (ended_in l shut)) (length sheet)).after ≡ l.inner = box-is l shut sheet feed ∙ rw (ended, taken_none l.inner all) in
-      let left : taken_of (Ok tt) l shut (length sheet) ≡ taken (Ok tt) 0 (layer_with l.hours l.minutes (carried_with l.carried.last Nothing) l.inner) = rw (box, ended) in
+      let left : taken_of (Ok tt) l shut (length sheet) ≡ taken (Ok tt) 0 (layer_with l.hours l.minutes (carried_with l.carried.last None) l.inner) = rw (box, ended) in
       let written : taken_sheet (Ok tt) l shut sheet ≡ sheet = sheet-is l shut sheet feed ∙ rw ended (overlay-none sheet 0) in (
-        ap (λ (p : OpenBar). taken (Ok tt) 0 (layer_with l.hours l.minutes (carried_with l.carried.last p) l.inner)) none ∙ sym (ap (λ (v : Verdict). taken_of v l shut (length sheet)) e ∙ left),
+        ap (λ (p : Option Bar). taken (Ok tt) 0 (layer_with l.hours l.minutes (carried_with l.carried.last p) l.inner)) none ∙ sym (ap (λ (v : Verdict). taken_of v l shut (length sheet)) e ∙ left),
         sym (ap (λ (v : Verdict). taken_sheet v l shut sheet) e ∙ written),
       )
   closed_none all (Err r) e none = (rw e, rw e)
 
-  pub closed-one : (bar : Bar) (v : Verdict) → close_verdict_of l (length sheet) ≡ v → leaves v Nothing l.carried.pending ≡ Begun bar
-      → (taken v 1 (layer_with l.hours l.minutes (carried_with l.carried.last Nothing) (fed_of l.inner (prices_of (bar ∷ [])) (length sheet)).after) ≡ closed_of l (length sheet))
+  pub closed-one : (bar : Bar) (v : Verdict) → close_verdict_of l (length sheet) ≡ v → leaves v None l.carried.pending ≡ Some bar
+      → (taken v 1 (layer_with l.hours l.minutes (carried_with l.carried.last None) (fed_of l.inner (prices_of (bar ∷ [])) (length sheet)).after) ≡ closed_of l (length sheet))
       × (sheet_of l.inner (prices_of (bar ∷ [])) sheet ≡ closed_sheet l sheet)
   unfolding closed_of closed_sheet carried_of
   closed-one bar (Ok tt) e one =
