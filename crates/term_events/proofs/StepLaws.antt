@@ -13,7 +13,7 @@ use lib.Dec.{ltb, eqb}
 use lib.ListN.{length, get_or, take, drop, drop_of_length-le, length-append}
 use lib.Seq.{drop-cons}
 use lib.Ieee.{Float}
-use borrow.Author.Tests.{ltb-true, le-ltb, eqb-true, eqb-false}
+use borrow.Author.Tests.{ltb-true, le-ltb, eq-eqb, eqb-true, eqb-false}
 use Rattle.measures.specs.Bar.{Bar, no_bar, overlay, prices_of}
 use Rattle.measures.proofs.Overlay.{overlay-none, overlay-more, length-overlay}
 use Rattle.measures.proofs.PriceLaws.{length-prices, prices-append, put-room}
@@ -245,12 +245,19 @@ module _ (h : Hours) (m : ℕ) (bars : List Bar) where
 -- ---- the code's loop: one turn, and its end
 
 module _ (h : Hours) (m : ℕ) (bars : List Bar) (c : Carried) (end k count : ℕ) (run : List Float) (ss : List ℕ) where
-  pub pass-next : k < length ss → (step : Step) → step ≡ step_by (ltb (get_or ss k 0) end) c (get_or ss k 0) (get_or bars k no_bar)
-      → pass_of h m bars c end k count run (drop k ss)
-      ≡ cond (is_some step.ended && eqb count (length run / 4)) (passed_with k count c, run)
-      (pass_of h m bars step.carried (next_end h m end (get_or ss k 0)) (k + 1) (count + length (open_bars step.ended)) (put_ended run count step.ended) (drop (k + 1) ss))
-  unfolding pass_of
-  pass-next within step e = rw (drop-next ss k 0 within, e)
+  module _ (step : Step) (is : step ≡ step_by (ltb (get_or ss k 0) end) c (get_or ss k 0) (get_or bars k no_bar)) (within : k < length ss) where
+    by_step : pass_of h m bars c end k count run (drop k ss)
+        ≡ cond (is_some step.ended && eqb count (length run / 4)) (passed_with k count c, run)
+        (pass_of h m bars step.carried (next_end h m end (get_or ss k 0)) (k + 1) (count + length (open_bars step.ended)) (put_ended run count step.ended) (drop (k + 1) ss))
+    unfolding pass_of
+    by_step = rw (drop-next ss k 0 within, is)
+
+    pub pass-stops : is_some step.ended ≡ true → count ≡ length run / 4 → pass_of h m bars c end k count run (drop k ss) ≡ (passed_with k count c, run)
+    pass-stops some full = by_step ∙ rw (some, eq-eqb count (length run / 4) full)
+
+    pub pass-next : (is_some step.ended && eqb count (length run / 4)) ≡ false → pass_of h m bars c end k count run (drop k ss)
+        ≡ pass_of h m bars step.carried (next_end h m end (get_or ss k 0)) (k + 1) (count + length (open_bars step.ended)) (put_ended run count step.ended) (drop (k + 1) ss)
+    pass-next on = by_step ∙ rw on
 
   pub pass-past : length ss ≤ k → pass_of h m bars c end k count run (drop k ss) ≡ (passed_with k count c, run)
   unfolding pass_of

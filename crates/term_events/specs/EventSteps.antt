@@ -1,6 +1,6 @@
 -- What the loops over the bars of a run go through: no part of what the layer promises.
 use Rattle.std.specs.Prelude.{Option, Some, None, is_some, Ok}
-use Rattle.std.specs.Prelude.{ℕ, ◌+◌, ◌/◌, ◌≤◌, ◌≡◌, Bool, true, false, cond, ◌&&◌, List, [], ◌∷◌, ltb, eqb, length, get_or, Float}
+use Rattle.std.specs.Prelude.{ℕ, ◌+◌, ◌/◌, ◌≤◌, ◌≡◌, Bool, true, cond, ◌&&◌, List, [], ◌∷◌, ltb, eqb, length, get_or, Float}
 use Rattle.recognisers.specs.Refusal.{first_true}
 use Rattle.measures.specs.Bar.{Bar, no_bar, put_bar}
 use Rattle.trading_hours.specs.declared.hours.Hours.{Hours}

@@ -1,6 +1,7 @@
 -- 02, P6: why a making, a run or a close is refused.
 use Rattle.answers.specs.Refusal.{Verdict}
 use Rattle.std.specs.Prelude.{Option, Some, None, ℕ, ◌/◌, Bool, true, false, ◌&&◌, List, [], ◌∷◌, ◌++◌, ltb, eqb, length}
+use Rattle.measures.specs.Bar.{Bar}
 use Rattle.recognisers.specs.Threshold.{Thresholds}
 use Rattle.answers.specs.declared.refusals.Refusal.TheVariants.{BadThreshold, BrokenBars}
 use Rattle.recognisers.specs.Refusal.{Tried, bad_threshold, broken_bars, late_stamp, outside_hours, bad_layer, first_true, next_after, feed_tried}

@@ -96,7 +96,14 @@ pub fn run_verdict(
 }
 
 // The first of the refusals 3, 12, 5 and 6 that is true of a close.
-pub fn close_verdict(t: Thresholds, h: Hours, m: u32, c: Carried, n: u32, sheet: usize) -> Result<(), Refusal>
+pub fn close_verdict(
+    t: Thresholds,
+    h: Hours,
+    m: u32,
+    c: Carried,
+    n: u32,
+    sheet: usize,
+) -> Result<(), Refusal>
     ensures { result ≡ close_verdict t h m c n sheet }
 {
     let layer = layer_valid(h, m, c);
