@@ -23,10 +23,9 @@ use Rattle.bar_box.proofs.FeedSteps.{fits, count-after, kept-after}
 use Rattle.trading_hours.specs.declared.hours.Hours.{Hours}
 use Rattle.term_events.specs.declared.events.Carried.{Carried}
 use Rattle.terms.specs.declared.layers.Layer.{Layer}
-use Rattle.terms.specs.declared.layers.Taken.{Taken}
 use Rattle.term_events.specs.Events.{Event, Close, nothing_yet, ended_of, carried_of, stamps_in, minutes_of}
 use Rattle.term_events.specs.Verdicts.{sound_carried, valid_layer, stamps_tried}
-use Rattle.terms.specs.Layer.{layer_with, ended_in, after_events, taken_of, taken_sheet, ran_of, ran_sheet, closed_of, closed_sheet}
+use Rattle.terms.specs.Layer.{Taken, layer_with, ended_in, after_events, taken_of, taken_sheet, ran_of, ran_sheet, closed_of, closed_sheet}
 use Rattle.terms.specs.History.{Call, Run, Shut, lent_sheet, events_in, verdict_by, verdict_on, appended, called, sheet_after, rows_of_call, Rising}
 use mathlib.Core.Bool.{true, ◌&&◌, and-true}
 use Rattle.trading_hours.specs.Hours.{valid_hours, in_hours, term_length}

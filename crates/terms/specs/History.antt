@@ -12,10 +12,10 @@ use Rattle.bar_box.specs.History.{NoBars, one_feed, fed, rows_in, Holds as BoxHo
 use Rattle.trading_hours.specs.declared.hours.Hours.{Hours}
 use Rattle.trading_hours.specs.Hours.{most_windows, windows_of, valid_hours, in_hours, term_of, term_length}
 use Rattle.trading_hours.specs.TermRule.{Before}
-use Rattle.terms.specs.declared.layers.{Layer.Layer, Taken.Taken}
+use Rattle.terms.specs.declared.layers.Layer.{Layer}
 use Rattle.term_events.specs.Events.{Event, Close, nothing_yet, ended_of, carried_of, stamp_after, stamps_in, minutes_of}
 use Rattle.term_events.specs.Verdicts.{valid_layer, run_tried, close_tried}
-use Rattle.terms.specs.Layer.{made_of, ended_in, ran_of, ran_sheet, closed_of, closed_sheet}
+use Rattle.terms.specs.Layer.{Taken, made_of, ended_in, ran_of, ran_sheet, closed_of, closed_sheet}
 
 -- what a call is lent: a run prices, one stamp a bar, and a sheet; a close a sheet
 pub data Call : Type 0 where
