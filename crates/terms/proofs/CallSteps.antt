@@ -2,6 +2,7 @@
 -- it gives. Assumes nothing.
 use Rattle.std.specs.Prelude.{None, Err, Ok}
 use Rattle.answers.specs.Refusal.{Verdict}
+use Rattle.std.specs.Result.{result_unwrap_or}
 use Prim.Native.Nat.{ℕ, ◌+◌, ◌*◌, ◌≤◌, ◌<◌}
 use mathlib.Core.Path.{◌≡◌, refl, ap, sym, ◌∙◌}
 use mathlib.Core.List.{List, [], ◌∷◌, ◌++◌}
@@ -25,7 +26,7 @@ use Rattle.term_events.specs.declared.events.Carried.{Carried}
 use Rattle.terms.specs.declared.layers.Layer.{Layer}
 use Rattle.term_events.specs.Events.{Event, Close, nothing_yet, ended_of, carried_of, stamps_in, minutes_of}
 use Rattle.term_events.specs.Verdicts.{sound_carried, valid_layer, stamps_tried}
-use Rattle.terms.specs.Layer.{Taken, layer_with, ended_in, after_events, taken_of, taken_sheet, ran_of, ran_sheet, closed_of, closed_sheet}
+use Rattle.terms.specs.Layer.{Taken, rows_by, rows_answer, layer_with, ended_in, after_events, taken_of, taken_sheet, ran_of, ran_sheet, closed_of, closed_sheet}
 use Rattle.terms.specs.History.{Call, Run, Shut, lent_sheet, events_in, verdict_by, verdict_on, appended, called, sheet_after, rows_of_call, Rising}
 use mathlib.Core.Bool.{true, ◌&&◌, and-true}
 use Rattle.trading_hours.specs.Hours.{valid_hours, in_hours, term_length}
@@ -83,6 +84,14 @@ rows_fit l x = rw (called_is l x) (go (verdict_at l x) refl)
         let four = length-prices (ended_in l (events_in x)) in
         (omega (arith, f.few), omega (arith, f.room))
     go (Err r) e = (omega arith, omega arith)
+
+-- they are what it answers, none of a refused call
+pub rows-told : (l : Layer) (x : Call) → result_unwrap_or (rows_answer (called l x)) 0 ≡ (called l x).rows
+rows-told l x = rw (called_is l x) (go (verdict_at l x))
+  where
+    go : (v : Verdict) → result_unwrap_or (rows_by v (leaves v 0 (length (ended_in l (events_in x))))) 0 ≡ leaves v 0 (length (ended_in l (events_in x)))
+    go (Ok tt) = refl
+    go (Err r) = refl
 
 -- of an accepted call the layer keeps the rules, and no refusal stops the stamps
 call-stamps : (t : Thresholds) (h : Hours) (m : ℕ) (c : Carried) (n : ℕ) (x : Call) → verdict_by t (valid_layer h m c) h c.last n x ≡ Ok tt

@@ -1,8 +1,8 @@
 -- The parts of a run whose feed is accepted, one after the other: each ends term bars, which are fed behind those before them. Assumes nothing.
 use Rattle.std.specs.Prelude.{Ok}
-use Prim.Native.Nat.{ℕ, ◌+◌, ◌-◌, ◌*◌, ◌/◌, ◌≤◌, ◌<◌}
+use Prim.Native.Nat.{ℕ, ◌+◌, ◌*◌, ◌/◌, ◌≤◌, ◌<◌}
 use mathlib.Core.Path.{◌≡◌, ap, sym, ◌∙◌}
-use mathlib.Core.List.{List, [], ◌++◌}
+use mathlib.Core.List.{List, ◌++◌}
 use native.Mathlib.Omega.{arith}
 use lib.ListN.{length, take, drop, length-append, length-take, length-drop}
 use lib.Seq.{take_at, take_all}
@@ -21,6 +21,9 @@ use Rattle.term_events.specs.Events.{Event, ended_of, carried_of, minutes_of}
 use Rattle.term_events.specs.EventSteps.{Ready, end_after, pass_of}
 use Rattle.term_events.proofs.EventLaws.{ended-few, length-minutes, ended-more, carried-more}
 use Rattle.term_events.proofs.StepLaws.{PassedBy, minutes-drop, ready-after, passed-by}
+use Rattle.box_record.specs.declared.boxes.BarBox.{BarBox}
+use Rattle.terms.specs.declared.layers.Layer.{Layer}
+use Rattle.terms.specs.Layer.{layer_with}
 use Rattle.terms.proofs.FeedLaws.{some-accepted, some-room}
 
 module _ (h : Hours) (m : ℕ) (c : Carried) (ps : List Float) (ss : List ℕ) where
@@ -79,12 +82,18 @@ module _ (h : Hours) (m : ℕ) (c : Carried) (ps : List Float) (ss : List ℕ) w
           carried = by.carried ∙ sym (rw by.at (carried-more h m c events done p));
         }
 
-    -- as the code has it
+    -- as the code has it, which takes hours, term length and what is carried from the layer
     pub part-fits : Ready h m c ss → (t : Thresholds) (n sheet : ℕ) → feed_verdict t n (length ps) sheet ≡ Ok tt
-        → (done : ℕ) → done < length ss → (run : List Float) → 4 ≤ length run → (carried : Carried) → carried ≡ carried_to done → (f : Passed) (left : List Float)
-        → let r = pass_of h m (bars_of ps) carried (end_after h m carried.last) done 0 run (drop done ss) in (f ≡ r.0) × (left ≡ r.1) → PartFits t n sheet done f left
-    part-fits ready t n sheet e done less run some carried is f left made = rw (made.0, made.1, is) (part_of t n sheet e done less run some _ (passed-part ready done less run))
+        → (done : ℕ) → done < length ss → (run : List Float) → 4 ≤ length run → (now : Layer) (b : BarBox) → now ≡ layer_with h m (carried_to done) b → (f : Passed) (left : List Float)
+        → let r = pass_of now.hours now.minutes (bars_of ps) now.carried (end_after now.hours now.minutes now.carried.last) done 0 run (drop done ss) in (f ≡ r.0) × (left ≡ r.1)
+        → PartFits t n sheet done f left
+    part-fits ready t n sheet e done less run some now b is f left made = rw (made.0, made.1, is) (part_of t n sheet e done less run some _ (passed-part ready done less run))
 
     -- past the last part
     pub all-passed : (done : ℕ) → length ss ≤ done → take done events ≡ events
     all-passed done past = take_all done events (omega (arith, length-minutes ss (bars_of ps) each))
+
+-- the layer with another box and another bar carried
+pub layer-next : (h : Hours) (m : ℕ) (c : Carried) (b : BarBox) (now : Layer) → now ≡ layer_with h m c b → {x y : BarBox} {p q : Carried} → x ≡ y → p ≡ q
+    → layer_with now.hours now.minutes p x ≡ layer_with h m q y
+layer-next h m c b now is box carried = rw (is, box, carried)

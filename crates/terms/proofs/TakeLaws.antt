@@ -3,40 +3,37 @@
 use Rattle.std.specs.Prelude.{Option, Some, None, Err, Ok}
 use Rattle.answers.specs.Refusal.{Verdict}
 use Rattle.answers.specs.declared.refusals.Refusal.{Refusal}
-use Prim.Native.Nat.{ℕ, ◌≤◌}
-use mathlib.Core.Path.{◌≡◌, refl, ap, sym, ◌∙◌}
+use Prim.Native.Nat.{ℕ, ◌≤◌, ◌<◌}
+use mathlib.Core.Path.{◌≡◌, ap, sym, ◌∙◌}
 use mathlib.Core.List.{List, [], ◌∷◌}
 use native.Mathlib.Omega.{arith}
-use borrow.Author.Tests.{not-false}
-use lib.ListN.{length, take, drop, take-append-drop}
-use lib.Seq.{take_all}
+use lib.ListN.{length, take, drop}
 use lib.Ieee.{Float}
 use Rattle.measures.specs.Bar.{Bar, bars_of, overlay, prices_of}
 use Rattle.measures.proofs.RunLaws.{length-bars}
 use Rattle.measures.proofs.Overlay.{overlay-none}
 use Rattle.recognisers.specs.Number.{places}
 use Rattle.recognisers.specs.Threshold.{Thresholds, standard_set}
-use Rattle.recognisers.specs.Refusal.{leaves, feed_verdict}
+use Rattle.recognisers.specs.Refusal.{feed_verdict}
+use Rattle.box_record.specs.declared.boxes.BarBox.{BarBox}
 use Rattle.bar_box.specs.Sheet.{rows_of}
-use Rattle.bar_box.specs.Box.{taken_in, fed_of, sheet_of, made_of as boxMade}
+use Rattle.bar_box.specs.Box.{taken_in, fed_of, sheet_of}
 use Rattle.bar_box.proofs.BoxLaws.{taken_none}
-use Rattle.bar_box.proofs.Demand3.{standard-valid}
-use Rattle.bar_box.proofs.FeedSteps.{none_true}
-use Rattle.bar_box.proofs.PartLaws.{rows_from, made-valid}
+use Rattle.bar_box.proofs.PartLaws.{rows_from}
 use Rattle.trading_hours.specs.declared.hours.Hours.{Hours}
 use Rattle.trading_hours.specs.Hours.{with_zeros}
 use Rattle.trading_hours.proofs.HourLaws.{term-some}
 use Rattle.term_events.specs.declared.events.{Passed.Passed}
-use Rattle.term_events.specs.Events.{Event, Close, nothing_yet, carried_with, open_bars, ended_of, carried_of, minutes_of}
+use Rattle.term_events.specs.Events.{Event, Close, carried_with, open_bars, carried_of, minutes_of}
 use Rattle.term_events.specs.Verdicts.{make_verdict}
 use Rattle.term_events.specs.EventSteps.{Ready, end_after, pass_of}
-use Rattle.term_events.proofs.EventLaws.{carried-append, ended-append, ended-one, length-minutes}
-use Rattle.term_events.proofs.StepLaws.{ready-after, passed-by, pass-past}
+use Rattle.term_events.proofs.EventLaws.{ended-one}
 use Rattle.term_events.proofs.VerdictLaws.{run-meets}
 use Rattle.terms.specs.declared.layers.Layer.{Layer}
-use Rattle.terms.specs.Layer.{layer_with, fresh_layer, run_verdict_of, ended_in, taken, taken_of, taken_sheet, ran_of, ran_sheet, whole_day, made_by, made_of, close_verdict_of, closed_of, closed_sheet}
+use Rattle.terms.specs.Layer.{layer_with, fresh_layer, run_verdict_of, ended_in, taken, taken_of, taken_sheet, ran_of, ran_sheet, whole_day, made_of, close_verdict_of, closed_of, closed_sheet}
 use Rattle.terms.specs.History.{Run, Shut}
 use Rattle.terms.proofs.CallSteps.{call-feed}
+use Rattle.terms.proofs.PartLaws.{carried_to, PartFits, part-fits, all-passed}
 use Rattle.terms.proofs.LayerLaws.{box-is, taken_is, sheet-is}
 
 module _ (l : Layer) (ps : List Float) (ss sheet : List ℕ) where
@@ -55,13 +52,16 @@ module _ (l : Layer) (ps : List Float) (ss sheet : List ℕ) where
   -- ---- an accepted run
 
   module _ (e : verdict ≡ Ok tt) where
-    pub one_each : length ss ≡ length (bars_of ps)
+    one_each : length ss ≡ length (bars_of ps)
     one_each = (run-meets _ _ _ _ _ _ _ _ e).one_each ∙ sym (length-bars ps)
 
-    pub run-ready : Ready h m l.carried ss
+    run-ready : Ready h m l.carried ss
     run-ready =
         let met = run-meets _ _ _ _ _ _ _ _ e in
         record { some = term-some _ met.layer.minutes; valid = met.layer.hours; sound = met.layer.carried; rising = met.rising }
+
+    run-as-feed : feed_verdict l.inner.thresholds l.inner.count (length ps) (length sheet) ≡ Ok tt
+    run-as-feed = (run-meets _ _ _ _ _ _ _ _ e).feed
 
     -- the box's own feed is not refused
     run-feed : feed_verdict l.inner.thresholds l.inner.count (length (prices_of (ended_in l events))) (length sheet) ≡ Ok tt
@@ -75,6 +75,16 @@ module _ (l : Layer) (ps : List Float) (ss sheet : List ℕ) where
     pub ran-sheet-is : overlay sheet 0 (rows_from l.inner (ended_in l events)) ≡ ran_sheet l ps ss sheet
     unfolding ran_sheet
     ran-sheet-is = sym (sheet-is l events sheet run-feed) ∙ ap (λ (v : Verdict). taken_sheet v l events sheet) (sym e)
+
+    -- a part of it, as the code's loop has the layer
+    pub next-part : (done : ℕ) → done < length ss → (run : List Float) → length run ≡ 128 → (now : Layer) (b : BarBox) → now ≡ layer_with h m (carried_to h m l.carried ps ss done) b → (f : Passed) (left : List Float)
+        → let r = pass_of now.hours now.minutes (bars_of ps) now.carried (end_after now.hours now.minutes now.carried.last) done 0 run (drop done ss) in (f ≡ r.0) × (left ≡ r.1)
+        → PartFits h m l.carried ps ss l.inner.thresholds l.inner.count (length sheet) done f left
+    next-part done less run size = part-fits h m l.carried ps ss one_each run-ready _ _ _ run-as-feed done less run (omega arith)
+
+    -- past the last one
+    pub all-taken : (done : ℕ) → length ss ≤ done → take done events ≡ events
+    all-taken = all-passed h m l.carried ps ss one_each
 
   -- ---- a refused run leaves layer and sheet
 

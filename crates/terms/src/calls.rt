@@ -12,7 +12,7 @@ ghost use Rattle.terms.specs.Layer.{layer_with, ended_in, run_verdict_of, close_
 use crate::layers;
 use crate::layers::{Layer, Made};
 use bar_box::BarBox;
-use recognisers::counts::ROW_BYTES;
+use recognisers::counts::{PLACES, ROW_BYTES};
 use recognisers::{Refusal, Thresholds};
 use term_events::verdicts;
 use trading_hours::{Hours, hours};
@@ -20,12 +20,14 @@ use trading_hours::{Hours, hours};
 // How many term bars are fed to the box at a time.
 const ROOM_BARS: usize = 32;
 
-// Feeds the first n bars of a run of prices, if there are any; their rows go to a row of the sheet and those after it.
+// Feeds the first n bars of a run of prices, if there are any; their rows go to a row of the sheet and those after it. Behind a reference a proof
+// knows that a box has all its places only once they are read: `prove!` does that here and below, and costs nothing.
 fn feed_front(b: &mut BarBox, run: &[f64], n: usize, sheet: &mut [u8], row: usize)
     requires { (feed_verdict b.old.thresholds b.old.count (4 * n) (row_bytes * n) ≡ Ok tt) × ((4 * n ≤ length run.now) × (row_bytes * (row + n) ≤ length sheet.old)) }
     ensures after { b.new ≡ taken_in b.old (bars_of (take (4 * n) run.now)) }
     ensures sheet { sheet.new ≡ overlay sheet.old (row_bytes * row) (rows_of b.old.thresholds b.old.count (kept b.old) (bars_of (take (4 * n) run.now))) }
 {
+    prove!(b.bars[..].len() == PLACES);
     if n == 0 {
         return;
     }
@@ -43,11 +45,14 @@ fn take_bars(l: &mut Layer, prices: &[f64], stamps: &[u32], sheet: &mut [u8]) ->
         × (l.new ≡ layer_with l.old.hours l.old.minutes (carried_of l.old.hours l.old.minutes l.old.carried es) (taken_in b ended))
         × (sheet.new ≡ overlay sheet.old 0 (rows_of b.thresholds b.count (kept b) ended)) }
 {
+    prove!(l.inner.bars[..].len() == PLACES);
     let mut run = [0.0; 4 * ROOM_BARS];
     let mut rows = 0usize;
     let mut done = 0usize;
     while done < stamps.len() {
-        let part = term_events::pass(l.hours, l.minutes, l.carried, prices, stamps, done, &mut run);
+        let part = term_events::pass(
+            l.hours, l.minutes, l.carried, prices, stamps, done, &mut run,
+        );
         feed_front(&mut l.inner, &run, part.count, sheet, rows);
         l.carried = part.carried;
         rows += part.count;
@@ -98,6 +103,7 @@ pub fn close(l: &mut Layer, sheet: &mut [u8]) -> Result<usize, Refusal>
         l.inner.count,
         sheet.len(),
     )?;
+    prove!(l.inner.bars[..].len() == PLACES);
     match l.carried.pending.take() {
         None => Ok(0),
         Some(bar) => {
