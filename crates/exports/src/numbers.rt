@@ -2,7 +2,7 @@
 ghost use Rattle.std.specs.Prelude.{◌≡◌};
 ghost use Rattle.recognisers.specs.Refusal.{verdict_number};
 
-use recognisers::Verdict;
+use recognisers::Refusal;
 use recognisers::refusals::refusal_number;
 
 // The number of a refusal, 0 if there is none.
@@ -11,6 +11,6 @@ pub(crate) fn verdict_number(v: Result<(), Refusal>) -> u32
 {
     match v {
         Ok(()) => 0,
-        Err(why) => refusal_number(why) as u32,
+        Err(why) => u32::from(refusal_number(why)),
     }
 }
