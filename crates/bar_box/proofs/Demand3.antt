@@ -66,7 +66,7 @@ module _ (b : BarBox) (start : NoBars b) (fs : List Feed) where
   look-joined di k (limits, within) =
       rw joined-box (look-ordinal b start joined k di (joined-sound.valid (omega (arith, limits, within))) joined-sound.few limits ∙ rw (up_to-in (length joined) di limits.0 within))
 
-  look-beyond : valid_of b.thresholds ≡ true → (di k : ℕ) → InLimits di k → length joined < di → look_answer_of (box_after b fs) k di ≡ Judged (table_row k).short 0
+  look-beyond : valid_of b.thresholds ≡ true → (di k : ℕ) → InLimits di k → length joined < di → look_answer_of (box_after b fs) k di ≡ Ok (record { pair = (table_row k).short; ordinal = 0 })
   look-beyond valid di k limits beyond =
       let none = up_to-out (length joined) di (inr beyond) in
       rw joined-box (look-ordinal b start joined k di valid joined-sound.few limits ∙ rw (none, no-bar k b.thresholds (length joined) joined di limits.2 none))

@@ -2,60 +2,24 @@
 -- gives. Assumes nothing.
 use Rattle.std.specs.Prelude.{Err, Ok}
 use Rattle.answers.specs.Refusal.{Verdict}
-use Prim.Native.Nat.{ℕ, ◌+◌, ◌*◌, ◌≤◌}
+use Prim.Native.Nat.{ℕ, ◌+◌, ◌*◌}
 use mathlib.Core.Path.{◌≡◌, refl, ◌∙◌}
 use mathlib.Core.List.{List, [], ◌++◌}
 use native.Mathlib.Omega.{arith}
 use native.Mathlib.Nat.{zero-add}
 use lib.ListN.{length, take, drop}
-use lib.Seq.{take_at, take-length}
-use lib.Ieee.{Float}
+use lib.Seq.{take_at}
 use Rattle.measures.specs.Bar.{Bar, bars_of, overlay}
 use Rattle.measures.specs.Window.{newest}
-use Rattle.measures.proofs.RunLaws.{length-bars}
-use Rattle.recognisers.specs.Threshold.{Thresholds}
 use Rattle.recognisers.specs.Number.{row_bytes, places}
-use Rattle.recognisers.specs.Refusal.{leaves, feed_verdict}
+use Rattle.recognisers.specs.Refusal.{leaves}
 pub use Rattle.answers.proofs.VerdictLaws.{Fits, none_true, fits, accepts}
 use Rattle.box_record.specs.declared.boxes.BarBox.{BarBox}
 use Rattle.bar_box.specs.Sheet.{rows_of}
 use Rattle.bar_box.specs.Box.{kept, taken_in, fed_of, sheet_of}
 use Rattle.bar_box.specs.History.{Feed, verdict_on, appended, fed, rows_in, NoBars}
-use Rattle.measures.proofs.Overlay.{overlay-none}
 use Rattle.bar_box.proofs.SheetLaws.{length-rows, rows-newest}
-use Rattle.bar_box.proofs.BoxLaws.{kept-taken, taken-append, taken_none}
-
--- ---- a feed takes all lent prices in, or none
-
--- how many of them, by the verdict
-abbrev lent : Verdict → List Float → List Float
-lent v ps = take (leaves v 0 (length ps)) ps
-
-pub lent-few : (v : Verdict) (n : ℕ) → leaves v 0 n ≤ n
-lent-few (Ok tt) n = omega arith
-lent-few (Err r) n = omega arith
-
--- 32 bits hold N and their bars, and the sheet has room for their rows
-pub lent_fits : (t : Thresholds) (n : ℕ) (ps : List Float) (sheet : ℕ) (v : Verdict) → feed_verdict t n (length ps) sheet ≡ v → n ≤ 4294967295
-    → (n + length (bars_of (lent v ps)) ≤ 4294967295) × (row_bytes * length (bars_of (lent v ps)) ≤ sheet)
-unfolding bars_of
-lent_fits t n ps sheet (Ok tt) e bound =
-    let f = fits t n (length ps) sheet e in
-    rw (take-length ps, length-bars ps) (omega (arith, f.few), f.room)
-lent_fits t n ps sheet (Err r) e bound = (omega arith, omega arith)
-
--- they leave the box that the verdict says
-pub lent-box : (v : Verdict) (b : BarBox) → length b.bars ≡ places → (ps : List Float) → taken_in b (bars_of (lent v ps)) ≡ leaves v b (taken_in b (bars_of ps))
-unfolding bars_of
-lent-box (Ok tt) b all ps = rw (take-length ps)
-lent-box (Err r) b all ps = taken_none b all
-
--- and the sheet
-pub lent-sheet : (v : Verdict) (t : Thresholds) (n : ℕ) (h : List Bar) (ps : List Float) (sheet : List ℕ)
-    → overlay sheet 0 (rows_of t n h (bars_of (lent v ps))) ≡ leaves v sheet (overlay sheet 0 (rows_of t n h (bars_of ps)))
-unfolding bars_of rows_of
-lent-sheet (Ok tt) t n h ps sheet = rw (take-length ps)
-lent-sheet (Err r) t n h ps sheet = overlay-none sheet 0
+use Rattle.bar_box.proofs.BoxLaws.{kept-taken, taken-append}
 
 -- ---- the box that a history left
 

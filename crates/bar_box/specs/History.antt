@@ -111,7 +111,7 @@ pub record Holds (b : BarBox) (fs : List Feed) (h : List Bar) (sheet : List ℕ)
   pub look-printed : (di k : ℕ) → Within h di k → (k ≡ gated → ⊥)
       → let seen = look_answer_of (box_after b fs) k di in codes_in (answer_in seen) ≡ printed (joined_rows b fs) (ordinal_in seen - 1) k
   -- (i) within a look's limits and beyond the history there is no judged bar: the short pair, and the ordinal 0
-  pub look_none : valid_of b.thresholds ≡ true → (di k : ℕ) → InLimits di k → length h < di → look_answer_of (box_after b fs) k di ≡ Judged (table_row k).short 0
+  pub look_none : valid_of b.thresholds ≡ true → (di k : ℕ) → InLimits di k → length h < di → look_answer_of (box_after b fs) k di ≡ Ok (record { pair = (table_row k).short; ordinal = 0 })
 
 -- a box without bars, as made or as a caller filled it: N is 0, whatever its thresholds and its 64 places hold
 pub record NoBars (b : BarBox) : Type 0 where

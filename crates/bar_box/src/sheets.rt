@@ -18,16 +18,9 @@ fn write_row(pairs: [Pair; RECOGNISERS], sheet: &mut [u8], at: usize)
     requires { at + row_bytes ≤ length sheet.old }
     ensures { sheet.new ≡ overlay sheet.old at (codes_of pairs) }
 {
-    let mut k = 0usize;
-    let mut place = at;
-    while k < RECOGNISERS {
-        let pair = pairs[k];
-        let v1 = pair.v1;
-        let v2 = pair.v2;
-        sheet[place] = code(v1);
-        sheet[place + 1] = code(v2);
-        place += 2;
-        k += 1;
+    for k in 0..RECOGNISERS {
+        sheet[at + 2 * k] = code(pairs[k].v1);
+        sheet[at + 2 * k + 1] = code(pairs[k].v2);
     }
 }
 
@@ -45,11 +38,9 @@ pub(crate) fn label_run(
     ensures { sheet.new ≡ overlay sheet.old at (rows_of t len (take first (bars_of prices.now)) (drop first (bars_of prices.now))) }
 {
     let n = measures::count(prices) - first;
-    let mut j = 0usize;
-    while j < n {
+    for j in 0..n {
         let history = measures::first_bars(prices, first + j + 1);
         let pairs = newest_pairs(t, len + j + 1, history);
         write_row(pairs, sheet, at + ROW_BYTES * j);
-        j += 1;
     }
 }

@@ -49,7 +49,7 @@ outcome v b = record { verdict = v; after = b }
 
 -- box-making tries 3; a refused one gives a fresh box with the standard set
 abbrev pub made_by : Verdict → Thresholds → BarBox
-made_by (Ok tt) t = fresh_box t
+made_by (Ok _) t = fresh_box t
 made_by (Err r) t = fresh_box standard_set
 
 unfoldable pub made_of : Thresholds → Outcome

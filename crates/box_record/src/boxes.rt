@@ -5,7 +5,7 @@ ghost use Rattle.box_record.specs.Box.{fresh_box, made_of};
 
 use measures::Bar;
 use recognisers::counts::PLACES;
-use recognisers::{Refusal, Thresholds, Verdict};
+use recognisers::{Refusal, Thresholds};
 
 // What a place holds: a bar and its ordinal, from 1 in the order of the history.
 #[derive(Clone, Copy)]
@@ -22,7 +22,7 @@ pub struct BarBox {
     pub bars: [KeptBar; PLACES],
 }
 
-// The box after a call, and whether it is refused. The box stands first: behind the verdict a feed would copy it once more.
+// A box, and whether the call that gives it is refused. No `Result`: a refused making hands out a box too, by rule (`made_of`).
 #[derive(Clone, Copy)]
 pub struct Outcome {
     pub after: BarBox,
@@ -61,10 +61,9 @@ pub fn make(t: Thresholds) -> Outcome
             after: fresh(t),
         }
     } else {
-        let standard = Thresholds::standard();
         Outcome {
             verdict: Err(Refusal::BadThreshold),
-            after: fresh(standard),
+            after: fresh(Thresholds::standard()),
         }
     }
 }

@@ -8,7 +8,7 @@ ghost use Rattle.box_record.specs.Box.{bars_in, kept, look_answer_of};
 use crate::boxes::{BarBox, KeptBar};
 use measures::{least, up_to};
 use recognisers::box_verdicts::look_verdict;
-use recognisers::{LookAnswer, Pair, Thresholds, Verdict, counts, table};
+use recognisers::{Judged, Pair, Refusal, Thresholds, counts, table};
 
 // The pair of a recogniser at an offset of the kept bars, with the box's count for len.
 fn pair_back(t: Thresholds, count: u32, bars: [KeptBar; counts::PLACES], k: u32, di: u32) -> Pair
@@ -16,12 +16,8 @@ fn pair_back(t: Thresholds, count: u32, bars: [KeptBar; counts::PLACES], k: u32,
 {
     let kept = least(count as usize, counts::PLACES);
     let mut run = [0.0; 4 * counts::PLACES];
-    let mut i = 0usize;
-    while i < kept {
-        let place = bars[i];
-        let bar = place.bar;
-        measures::put_bar(bar, &mut run, i);
-        i += 1;
+    for i in 0..kept {
+        measures::put_bar(bars[i].bar, &mut run, i);
     }
     let end = 4 * kept;
     table::pair_at(k, t, count as usize, &run[..end], di as usize)
@@ -41,14 +37,10 @@ pub fn look(b: BarBox, k: u32, di: u32) -> Result<Judged, Refusal>
     ensures values { (codes_in (answer_in result) ≡ leaves (look_verdict k di b.thresholds b.count) [] (codes_of (pair_at k b.thresholds b.count (kept b) di ∷ [])))
         × (ordinal_in result ≡ leaves (look_verdict k di b.thresholds b.count) 0 (up_to b.count di)) }
 {
-    match look_verdict(k, di, b.thresholds, b.count) {
-        Err(why) => Err(why),
-        Ok(()) => {
-            let bars = b.bars;
-            LookAnswer::Judged {
-                pair: pair_back(b.thresholds, b.count, bars, k, di),
-                ordinal: judged_ordinal(b.count, di),
-            }
-        }
-    }
+    look_verdict(k, di, b.thresholds, b.count)?;
+    let bars = b.bars;
+    Ok(Judged {
+        pair: pair_back(b.thresholds, b.count, bars, k, di),
+        ordinal: judged_ordinal(b.count, di),
+    })
 }

@@ -1,4 +1,4 @@
-use Prim.Native.Nat.{◌+◌, ◌-◌, ◌*◌, ◌≤◌}
+use Prim.Native.Nat.{◌≤◌}
 use mathlib.Core.Path.{◌≡◌}
 use lib.ListN.{length, take}
 use Rattle.recognisers.specs.Number.{recognisers}
@@ -7,7 +7,4 @@ use Rattle.measures.specs.Bar.{overlay}
 use Rattle.bar_box.proofs.sheets.write_row.Given as goal
 
 abbrev pub invariant-loop-k : goal.invariant-loop-k
-invariant-loop-k l = (l.k ≤ recognisers) × (l.place ≡ l.at + 2 * l.k) × (length l.sheet ≡ length l.initial.sheet) × (l.sheet ≡ overlay l.initial.sheet l.at (codes_of (take l.k l.pairs)))
-
-abbrev pub decreases-loop-k : goal.decreases-loop-k
-decreases-loop-k l = recognisers - l.k
+invariant-loop-k l = (l.k ≤ recognisers) × (length l.sheet ≡ length l.initial.sheet) × (l.sheet ≡ overlay l.initial.sheet l.at (codes_of (take l.k l.pairs)))

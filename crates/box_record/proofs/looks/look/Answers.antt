@@ -2,9 +2,10 @@
 use Rattle.std.specs.Prelude.{Err, Ok}
 use Rattle.answers.specs.Refusal.{Verdict}
 use Rattle.answers.specs.Answer.{LookAnswer}
+use Rattle.std.proofs.lemmas.Result.{err_from_is_err_and}
 use Prim.Native.Nat.{ℕ}
 use mathlib.Core.List.{[], ◌∷◌}
-use mathlib.Core.Path.{◌≡◌, ◌∙◌, sym}
+use mathlib.Core.Path.{◌≡◌, sym}
 use Rattle.measures.specs.Window.{up_to}
 use Rattle.recognisers.specs.Label.{Pair}
 use Rattle.recognisers.specs.Table.{pair_at, codes_of}
@@ -31,18 +32,19 @@ module _ (b : BarBox) (k di : ℕ) where
   unfolding look_answer_of look_of
   values r = values-in r verdict
 
-pub returns-in-Err : goal.returns-in-Err
+pub returns-in_err-look_verdict : goal.returns-in_err-look_verdict
 unfolding look_answer_of look_of
-returns-in-Err c =
+returns-in_err-look_verdict c =
     let args = c.args in
-    let e : Err c.in-Err.why ≡ look_answer_of args.b args.k args.di = simp (sym c.look_verdict.ensures ∙ c.in-Err.is) in
+    let p = err_from_is_err_and c.from_residual.result c.from_residual.ensures.1 in
+    let e : c.from_residual.result ≡ look_answer_of args.b args.k args.di = rw (p.1, p.2) (simp (sym c.in_err-look_verdict.ensures)) in
     let told = values args.b args.k args.di _ e in
     record { answer = e; number = told.0; values = told.1 }
 
-pub returns-in-Ok : goal.returns-in-Ok
+pub returns : goal.returns
 unfolding look_answer_of look_of
-returns-in-Ok c =
+returns c =
     let args = c.args in
-    let e : Ok (record { pair = c.pair_back.result; ordinal = c.judged_ordinal.result }) ≡ look_answer_of args.b args.k args.di = simp (sym c.look_verdict.ensures ∙ c.in-Ok.is, c.pair_back.ensures, c.judged_ordinal.ensures) in
+    let e : Ok (record { pair = c.pair_back.result; ordinal = c.judged_ordinal.result }) ≡ look_answer_of args.b args.k args.di = simp (sym c.in_ok-look_verdict.ensures, c.pair_back.ensures, c.judged_ordinal.ensures) in
     let told = values args.b args.k args.di _ e in
     record { answer = e; number = told.0; values = told.1 }
