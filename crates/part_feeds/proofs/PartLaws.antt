@@ -105,15 +105,23 @@ module _ (b : BarBox) (all : length b.bars ≡ places) (tally : List TallyRow) (
     next-tallied-sheet = rw accepted-with next-sheet
 
     -- a feed that counts if it is told to: what it answers, the box after it, and its part of the sheet
-    pub next-answer : (on : Bool) → cond on (table_answer (tallied_of (taken_in b before) (brought on (rows_from b before) tally) part)) (answered (fed_of (taken_in b before) part.prices (length part.sheet)).verdict (brought on (rows_from b before) tally)) ≡ Ok (brought on (rows_from b later) tally)
+    next-answer : (on : Bool) → cond on (table_answer (tallied_of (taken_in b before) (brought on (rows_from b before) tally) part)) (answered (fed_of (taken_in b before) part.prices (length part.sheet)).verdict (brought on (rows_from b before) tally)) ≡ Ok (brought on (rows_from b later) tally)
     unfolding fed_of
     next-answer true = ap table_answer next-tallied
     next-answer false = ap (λ (v : Verdict). answered v tally) accepted
 
-    pub next-after : (on : Bool) → cond on (tallied_of (taken_in b before) (brought on (rows_from b before) tally) part).after (fed_of (taken_in b before) part.prices (length part.sheet)).after ≡ taken_in b later
+    next-after : (on : Bool) → cond on (tallied_of (taken_in b before) (brought on (rows_from b before) tally) part).after (fed_of (taken_in b before) part.prices (length part.sheet)).after ≡ taken_in b later
     next-after true = ap (λ (o : Tallied). o.after) next-tallied
     next-after false = next-box
 
-    pub next-rows : (on : Bool) → put_mid (row_bytes * passed) (length s - row_bytes * passed) s (cond on (tallied_sheet (taken_in b before) (brought on (rows_from b before) tally) part) (sheet_of (taken_in b before) part.prices part.sheet)) ≡ overlay s₀ 0 (rows_from b later)
+    next-rows : (on : Bool) → put_mid (row_bytes * passed) (length s - row_bytes * passed) s (cond on (tallied_sheet (taken_in b before) (brought on (rows_from b before) tally) part) (sheet_of (taken_in b before) part.prices part.sheet)) ≡ overlay s₀ 0 (rows_from b later)
     next-rows true = next-tallied-sheet
     next-rows false = next-sheet
+
+    -- all three, of a box and a table that are those after the bars before, and with the place where the part ends
+    pub next : (on : Bool) (x : BarBox) (t : List TallyRow) (past : ℕ) → x ≡ taken_in b before → t ≡ brought on (rows_from b before) tally → past ≡ passed + n
+        → let f = lent (take (4 * past - 4 * passed) (drop (4 * passed) ps)) (rest_of s (row_bytes * passed)) in
+        (cond on (table_answer (tallied_of x t f)) (answered (fed_of x f.prices (length f.sheet)).verdict t) ≡ Ok (brought on (rows_from b later) tally))
+        × (cond on (tallied_of x t f).after (fed_of x f.prices (length f.sheet)).after ≡ taken_in b later)
+        × (put_mid (row_bytes * passed) (length s - row_bytes * passed) s (cond on (tallied_sheet x t f) (sheet_of x f.prices f.sheet)) ≡ overlay s₀ 0 (rows_from b later))
+    next on x t past same-box same-table e = rw (same-box, same-table, e) (next-answer on, next-after on, next-rows on)

@@ -48,6 +48,8 @@ fn take_parts(
         let one = tallied_of b.old tally f in
         (result ≡ answered one.verdict (cond counts one.tally tally)) × (b.new ≡ one.after) × (sheet.new ≡ tallied_sheet b.old tally f) }
 {
+    // read for the proof, which is then told how many places a box has
+    let _first = b.bars[0].ordinal;
     let total = measures::count(prices);
     let mut table = tally;
     let mut done = 0usize;
@@ -60,7 +62,13 @@ fn take_parts(
         done += n;
     }
     let end = 4 * total;
-    feed_part(b, counts, table, &prices[4 * done..end], &mut sheet[ROW_BYTES * done..])
+    feed_part(
+        b,
+        counts,
+        table,
+        &prices[4 * done..end],
+        &mut sheet[ROW_BYTES * done..],
+    )
 }
 
 // Feeds of these sizes and a last one of what they leave, which bring the tally along and count into it if they are told to; or the refusal of
