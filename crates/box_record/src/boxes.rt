@@ -61,9 +61,10 @@ pub fn make(t: Thresholds) -> Outcome
             after: fresh(t),
         }
     } else {
+        let standard = Thresholds::standard();
         Outcome {
             verdict: Err(Refusal::BadThreshold),
-            after: fresh(Thresholds::standard()),
+            after: fresh(standard),
         }
     }
 }

@@ -1,5 +1,5 @@
 -- "The labels program": what it prints for an input, said of the whole history up to each bar, without the box.
-use Rattle.std.specs.Prelude.{ℕ, ◌+◌, cond, List, [], ◌∷◌, ◌++◌, ltb, length}
+use Rattle.std.specs.Prelude.{ℕ, ◌+◌, cond, List, [], ◌∷◌, ◌++◌, ltb, length, Some}
 use Rattle.measures.specs.Bar.{Bar}
 use Rattle.answers.specs.declared.refusals.Refusal.TheVariants as refusal
 use Rattle.recognisers.specs.Number.{most_bars}
@@ -20,9 +20,9 @@ lines_print each end history [] = end history
 lines_print each end history (Prices bar ∷ lines) =
     cond (ltb (length history) most_bars)
     (each (history ++ (bar ∷ [])) ++ lines_print each end (history ++ (bar ∷ [])) lines)
-    (refusal_line (length history + 1) (By refusal.TooManyBars))
-lines_print each end history (BadShape ∷ lines) = refusal_line (length history + 1) (By refusal.BadShape)
-lines_print each end history (BadPrice place ∷ lines) = refusal_line (length history + 1) (Price place)
+    (refusal_line (length history + 1) (Some (By refusal.TooManyBars)))
+lines_print each end history (BadShape ∷ lines) = refusal_line (length history + 1) (Some (By refusal.BadShape))
+lines_print each end history (BadPrice place ∷ lines) = refusal_line (length history + 1) (Some (Price place))
 
 -- this program prints the rows of each bar, over the history up to it
 abbrev pub history_prints : List Bar → List Line → List ℕ

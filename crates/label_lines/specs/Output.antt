@@ -1,5 +1,5 @@
 -- "The labels program": what it prints for an input.
-use Rattle.std.specs.Prelude.{Err, Ok}
+use Rattle.std.specs.Prelude.{Err, Ok, Some}
 use Rattle.answers.specs.Refusal.{Verdict}
 use Rattle.std.specs.Prelude.{ℕ, ◌+◌, Bool, true, false, cond, List, [], ◌∷◌, ◌++◌, replicate}
 use Rattle.measures.specs.Bar.{Bar, prices_of}
@@ -24,7 +24,7 @@ pub record Step : Type 0 where
 
 -- a refused line leaves the box; its ordinal is one more than the bars before
 abbrev pub refused_step : BarBox → Stop → Step
-refused_step b stop = record { printed = refusal_line (b.count + 1) stop; after = b; stops = true }
+refused_step b stop = record { printed = refusal_line (b.count + 1) (Some stop); after = b; stops = true }
 
 -- an accepted bar prints its rows, a refused one the refusal, and stops
 abbrev pub judged_of : Verdict → BarBox → List ℕ → BarBox → Step

@@ -1,6 +1,6 @@
 -- What an input prints beside what it printed while refusal 8 was for bad prices too, as in 01's own words for it: nothing else, but for
 -- the line of a bad price. proofs/SameRows.antt shows it of every input.
-use Rattle.std.specs.Prelude.{ℕ, List, [], ◌++◌, map, ◌⊎◌, ◌≡◌}
+use Rattle.std.specs.Prelude.{ℕ, List, [], ◌++◌, map, ◌⊎◌, ◌≡◌, Some}
 use Rattle.answers.specs.declared.refusals.Refusal.TheVariants as refusal
 use Rattle.text.specs.declared.line_text.Line.{Line, TheVariants.Prices, TheVariants.BadShape, TheVariants.BadPrice}
 use Rattle.text.specs.LineText.{line_of}
@@ -20,7 +20,7 @@ by8 (BadPrice place) = BadShape
 abbrev pub Same : List ℕ → List ℕ → Type 0
 Same now then =
     (now ≡ then)
-    ⊎ ((rows : List ℕ) × (ordinal : ℕ) × (place : ℕ) × (now ≡ rows ++ refusal_line ordinal (Price place)) × (then ≡ rows ++ refusal_line ordinal (By refusal.BadShape)))
+    ⊎ ((rows : List ℕ) × (ordinal : ℕ) × (place : ℕ) × (now ≡ rows ++ refusal_line ordinal (Some (Price place))) × (then ≡ rows ++ refusal_line ordinal (Some (By refusal.BadShape))))
 
 abbrev pub SameRows : List ℕ → Type 0
 SameRows input = Same (output_of input) (history_prints [] (map by8 (map line_of (lines_of input))))

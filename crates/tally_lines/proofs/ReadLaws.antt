@@ -1,5 +1,6 @@
 -- Bytes read as lines: a begun line of which the first bytes are kept, one run behind another, and the bytes up to the end of a line.
 -- Assumes nothing.
+use Rattle.std.specs.Prelude.{None}
 use Prim.Native.Nat.{ℕ, ◌+◌, ◌≤◌, ◌<◌}
 use mathlib.Core.Bool.{Bool, true, false, cond, not}
 use mathlib.Core.List.{List, [], ◌∷◌, ◌++◌, append_assoc, append-nil}
@@ -18,7 +19,6 @@ use Rattle.input_lines.proofs.LineLaws.{kept-kept, content-partial}
 use Rattle.text.proofs.LineTextLaws.{line_kept}
 use Rattle.input_lines.proofs.RunLaws.{all_pass, run-taken}
 use Rattle.label_lines.proofs.SessionLaws.{with-feed}
-use Rattle.output_lines.specs.declared.output.Stop.TheVariants.{Going}
 use Rattle.output_lines.specs.Output.{goes_on}
 use Rattle.tally_lines.specs.declared.reading.Gathered.{Gathered}
 use Rattle.tally_lines.specs.Session.{Read, after_line, read_from, line_bars, line_stop}
@@ -107,7 +107,7 @@ read-turn cur chunk u n r is going =
 -- ---- bytes up to the end of a line
 
 -- bytes without a line feed
-quiet : (bars : List Bar) (cur xs : List ℕ) → piece_end line_feed xs ≡ length xs → read_from bars cur xs ≡ record { bars = bars; line = kept_line (cur ++ xs); stop = Going }
+quiet : (bars : List Bar) (cur xs : List ℕ) → piece_end line_feed xs ≡ length xs → read_from bars cur xs ≡ record { bars = bars; line = kept_line (cur ++ xs); stop = None }
 unfolding read_from
 quiet bars cur [] e = rw append-nil
 quiet bars cur (x ∷ xs) e =
@@ -129,7 +129,7 @@ module _ (cur chunk : List ℕ) (k : ℕ) (is : k ≡ piece_end line_feed chunk)
   alone : piece_end line_feed (take k chunk) ≡ length (take k chunk)
   alone = rw is (run-taken (λ b. not (eqb b line_feed)) chunk)
 
-  pub read-rest : read_from [] cur (take k chunk) ≡ record { bars = []; line = kept_line (cur ++ take k chunk); stop = Going }
+  pub read-rest : read_from [] cur (take k chunk) ≡ record { bars = []; line = kept_line (cur ++ take k chunk); stop = None }
   read-rest = quiet [] cur (take k chunk) alone
 
   pub read-line : k < length chunk

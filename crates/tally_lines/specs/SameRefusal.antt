@@ -1,6 +1,6 @@
 -- "At a refused line it prints the labels program's refusal line and nothing else": what this program prints beside what the labels program
 -- prints for the same input. proofs/SameRefusal.antt shows it of every input.
-use Rattle.std.specs.Prelude.{ℕ, ◌≤◌, false, List, [], ◌∷◌, ◌++◌, map, ◌⊎◌, ◌≡◌, length}
+use Rattle.std.specs.Prelude.{ℕ, ◌≤◌, false, List, [], ◌∷◌, ◌++◌, map, ◌⊎◌, ◌≡◌, length, Option}
 use Rattle.measures.specs.Bar.{Bar}
 use Rattle.recognisers.specs.Number.{most_bars}
 use Rattle.text.specs.declared.line_text.Line.{Line, TheVariants.Prices}
@@ -26,7 +26,7 @@ pub record Tabled (history : List Bar) (lines : List Line) (tally : List ℕ) : 
 -- a refusal line, which is one line, is printed and nothing else, and the labels program prints it last
 pub record Refused (labels tally : List ℕ) : Type 0 where
   pub ordinal : ℕ
-  pub stop : Stop
+  pub stop : Option Stop
   pub refused : goes_on stop ≡ false
   pub prints : tally ≡ refusal_line ordinal stop
   pub one_line : (line : List ℕ) × (lines_of tally ≡ line ∷ [])

@@ -23,5 +23,5 @@ pub returns-else-valid : goal.returns-else-valid
 unfolding made_of first_true
 returns-else-valid c =
     let valid = sym c.is_valid-valid.ensures ∙ c.if-valid.false in
-    let all = numbered-answer _ _ (simp (valid, c.fresh-else-valid.ensures, c.standard.ensures)) in
+    let all = numbered-answer _ _ (simp (valid, c.fresh-else-valid.ensures, c.standard-standard.ensures)) in
     record { answer = all.0; number = all.1 }
