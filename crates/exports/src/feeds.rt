@@ -6,9 +6,9 @@ ghost use Rattle.recognisers.specs.Export.{result_of};
 ghost use Rattle.bar_box.specs.Box.{fresh_box, fed_of, sheet_of};
 ghost use Rattle.exports.specs.Feeds.{look_after};
 
-use crate::numbers::verdict_number;
 use bar_box::{BarBox, fresh};
 use part_feeds::feed_parts;
+use recognisers::refusals::verdict_number;
 use recognisers::{Judged, Refusal, Thresholds, answer_in, answer_number, ordinal_in};
 
 // A box without bars is fed the prices in feeds of these sizes.
@@ -51,7 +51,7 @@ pub extern "C" fn jcc_feed(
     );
     let mut b = fresh(t);
     let verdict = feed(&mut b, sizes, prices, sheet);
-    verdict_number(verdict)
+    u32::from(verdict_number(verdict))
 }
 
 // The same feeds, then one look at the box that they leave, which answers for a refused feed too.

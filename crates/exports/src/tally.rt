@@ -9,10 +9,10 @@ ghost use Rattle.tallies.specs.Feed.{lent, tallied_of, tallied_sheet};
 ghost use Rattle.term_calls.specs.Numbers.{written_to};
 ghost use Rattle.exports.specs.Tally.{tally_in, numbers_of, numbers_after};
 
-use crate::numbers::verdict_number;
 use bar_box::fresh;
 use part_feeds::feed_parts;
 use recognisers::counts::{LABELS, RECOGNISERS};
+use recognisers::refusals::verdict_number;
 use recognisers::{Refusal, Thresholds};
 use tallies::TallyRow;
 use term_calls::number_at;
@@ -103,5 +103,5 @@ pub extern "C" fn jcc_tally(
         th0, z2, th2, z3, th3, zdf5, th6, zdf7, th8, zf8, th10, th13, th14,
     );
     let verdict = feed(t, sizes, prices, sheet, numbers);
-    verdict_number(verdict)
+    u32::from(verdict_number(verdict))
 }
