@@ -3,9 +3,9 @@ use Rattle.std.specs.Prelude.{ℕ, ◌+◌, ◌*◌, ◌/◌, ◌%◌, List, get
 use Rattle.recognisers.specs.Number.{labels}
 use Rattle.recognisers.specs.Refusal.{leaves}
 use Rattle.tallies.specs.declared.table.TallyRow.{TallyRow}
-use Rattle.tallies.specs.declared.feeds.Tallied.{Tallied}
 use Rattle.tallies.specs.Tally.{fresh_tally, cell_of, by_place, gained}
 use Rattle.tallies.specs.Count.{cells}
+use Rattle.tallies.specs.Feed.{Tallied}
 use Rattle.term_calls.specs.Numbers.{written_to}
 
 -- the table with these numbers; those that are missing are zeros

@@ -6,23 +6,24 @@ ghost use Rattle.recognisers.specs.Export.{result_of};
 ghost use Rattle.bar_box.specs.Box.{fresh_box, fed_of, sheet_of};
 ghost use Rattle.exports.specs.Feeds.{look_after};
 
-use crate::numbers::verdict_number;
-use bar_box::{Outcome, fresh};
+use bar_box::{BarBox, fresh};
 use part_feeds::feed_parts;
-use recognisers::{LookAnswer, Thresholds, Verdict, answer_in, answer_number, ordinal_in};
+use recognisers::refusals::verdict_number;
+use recognisers::{Judged, Refusal, Thresholds, answer_in, answer_number, ordinal_in};
 
-// A fresh box is fed the prices in feeds of these sizes.
-fn fed(t: Thresholds, sizes: &[u32], prices: &[f64], sheet: &mut [u8]) -> Outcome
-    ensures { (result ≡ fed_of (fresh_box t) prices.now (length sheet.old)) × (sheet.new ≡ sheet_of (fresh_box t) prices.now sheet.old) }
+// A box without bars is fed the prices in feeds of these sizes.
+fn feed(b: &mut BarBox, sizes: &[u32], prices: &[f64], sheet: &mut [u8]) -> Result<(), Refusal>
+    requires { b.old.count ≡ 0 }
+    ensures verdict { result ≡ (fed_of b.old prices.now (length sheet.old)).verdict }
+    ensures after { b.new ≡ (fed_of b.old prices.now (length sheet.old)).after }
+    ensures sheet { sheet.new ≡ sheet_of b.old prices.now sheet.old }
 {
-    let uncounted = tallies::fresh();
-    let fed = feed_parts(fresh(t), false, uncounted, sizes, prices, sheet);
-    let after = fed.after;
-    let verdict = fed.verdict;
-    Outcome { after, verdict }
+    feed_parts(b, false, tallies::fresh(), sizes, prices, sheet)?;
+    Ok(())
 }
 
-// A fresh box is fed the prices in feeds of these sizes. The answer is 0, or the number of the refusal, which leaves the sheet.
+// A fresh box is fed the prices in feeds of these sizes. The answer is 0, or the number of the refusal, which leaves the sheet. The thresholds
+// are thirteen parameters here and below, since C passes them so.
 #[unsafe(no_mangle)]
 pub extern "C" fn jcc_feed(
     th0: f64,
@@ -48,9 +49,9 @@ pub extern "C" fn jcc_feed(
     let t = Thresholds::new(
         th0, z2, th2, z3, th3, zdf5, th6, zdf7, th8, zf8, th10, th13, th14,
     );
-    let out = fed(t, sizes, prices, sheet);
-    let verdict = out.verdict;
-    verdict_number(verdict)
+    let mut b = fresh(t);
+    let verdict = feed(&mut b, sizes, prices, sheet);
+    u32::from(verdict_number(verdict))
 }
 
 // The same feeds, then one look at the box that they leave, which answers for a refused feed too.
@@ -64,15 +65,9 @@ fn look_after(
 ) -> Result<Judged, Refusal>
     ensures { (result ≡ look_after (fed_of (fresh_box t) prices.now (length sheet.old)) recogniser offset) × (sheet.new ≡ sheet_of (fresh_box t) prices.now sheet.old) }
 {
-    let out = fed(t, sizes, prices, sheet);
-    let verdict = out.verdict;
-    match verdict {
-        Err(why) => Err(why),
-        Ok(()) => {
-            let after = out.after;
-            bar_box::look(after, recogniser, offset)
-        }
-    }
+    let mut b = fresh(t);
+    feed(&mut b, sizes, prices, sheet)?;
+    bar_box::look(b, recogniser, offset)
 }
 
 // The same feeds, then one look: v1 × 256 + v2, or 65,536 plus the refusal of the feed or of the look.

@@ -4,7 +4,6 @@
 #![tactic(auto)]
 
 pub mod feeds;
-mod numbers;
 pub mod tally;
 pub mod term_lists;
 

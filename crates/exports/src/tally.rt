@@ -4,17 +4,16 @@ ghost use Rattle.recognisers.specs.Number.{recognisers, labels};
 ghost use Rattle.recognisers.specs.Refusal.{verdict_number};
 ghost use Rattle.recognisers.specs.Threshold.{thresholds_of};
 ghost use Rattle.bar_box.specs.Box.{fresh_box};
-ghost use Rattle.tallies.specs.Tally.{cell_of, gain_row};
+ghost use Rattle.tallies.specs.Tally.{gain_row};
 ghost use Rattle.tallies.specs.Feed.{lent, tallied_of, tallied_sheet};
 ghost use Rattle.term_calls.specs.Numbers.{written_to};
 ghost use Rattle.exports.specs.Tally.{tally_in, numbers_of, numbers_after};
 
-use crate::numbers::verdict_number;
 use bar_box::fresh;
-use measures::least;
 use part_feeds::feed_parts;
 use recognisers::counts::{LABELS, RECOGNISERS};
-use recognisers::{Thresholds, Verdict};
+use recognisers::refusals::verdict_number;
+use recognisers::{Refusal, Thresholds};
 use tallies::TallyRow;
 use term_calls::number_at;
 
@@ -27,10 +26,8 @@ fn row_of(numbers: &[u32], k: usize) -> TallyRow
     ensures { result.counts ≡ gain_row (λ c. get_or numbers.now (labels * k + c) 0) (replicate labels 0) }
 {
     let mut counts = [0u32; LABELS];
-    let mut c = 0usize;
-    while c < LABELS {
+    for c in 0..LABELS {
         counts[c] = number_at(numbers, LABELS * k + c);
-        c += 1;
     }
     TallyRow { counts }
 }
@@ -40,38 +37,43 @@ fn table_of(numbers: &[u32]) -> [TallyRow; RECOGNISERS]
     ensures { result ≡ tally_in numbers.now }
 {
     let mut tally = tallies::fresh();
-    let mut k = 0usize;
-    while k < RECOGNISERS {
+    for k in 0..RECOGNISERS {
         tally[k] = row_of(numbers, k);
-        k += 1;
     }
     tally
-}
-
-// A cell of the table.
-fn cell(tally: [TallyRow; RECOGNISERS], k: usize, c: usize) -> u32
-    requires { (k < recognisers) × (c < labels) }
-    ensures { result ≡ cell_of tally k c }
-{
-    let row = tally[k];
-    let counts = row.counts;
-    counts[c]
 }
 
 // Writes the table's numbers, as far as there are places for them.
 fn put(tally: [TallyRow; RECOGNISERS], numbers: &mut [u32])
     ensures { numbers.new ≡ written_to numbers.old (numbers_of tally) }
 {
-    let n = least(numbers.len(), CELLS);
-    let mut i = 0usize;
-    while i < n {
-        numbers[i] = cell(tally, i / LABELS, i % LABELS);
-        i += 1;
+    for i in 0..numbers.len().min(CELLS) {
+        numbers[i] = tally[i / LABELS].counts[i % LABELS];
     }
 }
 
+// A fresh box is fed the prices in feeds of these sizes, with the tally that the numbers are; a refusal leaves sheet and numbers.
+fn feed(
+    t: Thresholds,
+    sizes: &[u32],
+    prices: &[f64],
+    sheet: &mut [u8],
+    numbers: &mut [u32],
+) -> Result<(), Refusal>
+    ensures { let tally = tally_in numbers.old in
+        let f = lent prices.now sheet.old in
+        let one = tallied_of (fresh_box t) tally f in
+        (result ≡ one.verdict) × (sheet.new ≡ tallied_sheet (fresh_box t) tally f) × (numbers.new ≡ numbers_after numbers.old one) }
+{
+    let mut b = fresh(t);
+    let tally = table_of(numbers);
+    let after = feed_parts(&mut b, true, tally, sizes, prices, sheet)?;
+    put(after, numbers);
+    Ok(())
+}
+
 // A fresh box is fed the prices in feeds of these sizes, with the tally that the numbers are. The answer is 0, or the number of the refusal,
-// which leaves sheet and numbers.
+// which leaves sheet and numbers. The thresholds are thirteen parameters, since C passes them so.
 #[unsafe(no_mangle)]
 pub extern "C" fn jcc_tally(
     th0: f64,
@@ -100,12 +102,6 @@ pub extern "C" fn jcc_tally(
     let t = Thresholds::new(
         th0, z2, th2, z3, th3, zdf5, th6, zdf7, th8, zf8, th10, th13, th14,
     );
-    let tally = table_of(numbers);
-    let fed = feed_parts(fresh(t), true, tally, sizes, prices, sheet);
-    let verdict = fed.verdict;
-    if let Ok(()) = verdict {
-        let after = fed.tally;
-        put(after, numbers);
-    }
-    verdict_number(verdict)
+    let verdict = feed(t, sizes, prices, sheet, numbers);
+    u32::from(verdict_number(verdict))
 }

@@ -6,8 +6,8 @@ ghost use Rattle.terms.specs.Layer.{made_of};
 ghost use Rattle.term_calls.specs.TermCalls.{hours_in};
 ghost use Rattle.exports.specs.TermLists.{terms_sheet, terms_answers};
 
-use crate::numbers::verdict_number;
-use recognisers::{Thresholds, Verdict};
+use recognisers::Thresholds;
+use recognisers::refusals::verdict_number;
 use term_calls::{hours_of, make_calls};
 
 // Makes a layer and calls of these sizes to it: 0 is a close, any other number a run of that many of the bars that are left. The answer is
@@ -51,5 +51,5 @@ pub extern "C" fn jcc_terms(
         let l = made.after;
         make_calls(l, sizes, prices, stamps, sheet, answers);
     }
-    verdict_number(verdict)
+    u32::from(verdict_number(verdict))
 }

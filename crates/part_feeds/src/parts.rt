@@ -1,98 +1,90 @@
 // Feeds of any sizes, one after the other, which leave what one feed of all the bars does.
-ghost use Rattle.std.specs.Prelude.{◌≡◌, cond, ◌≤◌, min, ltb, length, get_or};
+ghost use Rattle.std.specs.Prelude.{◌≡◌, cond, length};
 ghost use Rattle.std.specs.Prelude.{Ok};
+ghost use Rattle.bar_box.specs.Box.{fed_of, sheet_of};
 ghost use Rattle.tallies.specs.Tally.{Shaped};
-ghost use Rattle.tallies.specs.Feed.{lent, verdict_with, tallied_of, tallied_sheet};
+ghost use Rattle.tallies.specs.Feed.{lent, verdict_with, tallied_of, tallied_sheet, answered, table_answer};
 
-use bar_box::{BarBox, Outcome};
+use bar_box::BarBox;
 use measures::least;
-use recognisers::Verdict;
+use recognisers::Refusal;
 use recognisers::counts::{RECOGNISERS, ROW_BYTES};
+use tallies::TallyRow;
 use tallies::feeds::tally_verdict;
-use tallies::{Tallied, TallyRow};
 
-// The bars of the i-th feed: as many as its size says, no more than are left; past the last size all that are left.
-fn part_size(sizes: &[u32], i: usize, left: usize) -> usize
-    ensures { (result ≡ cond (ltb i (length sizes.now)) (min (get_or sizes.now i 0) left) left) × (result ≤ left) }
+// A feed that counts into the tally, or one that hands it back as it is. The switch stands here alone, so that the feeds are proved once for both:
+// a closure in its place would bring this contract along as a `requires`.
+fn feed_part(
+    b: &mut BarBox,
+    counts: bool,
+    tally: [TallyRow; RECOGNISERS],
+    prices: &[f64],
+    sheet: &mut [u8],
+) -> Result<[TallyRow; RECOGNISERS], Refusal>
+    ensures answer { let f = lent prices.now sheet.old in
+        result ≡ cond counts (table_answer (tallied_of b.old tally f)) (answered (fed_of b.old prices.now (length sheet.old)).verdict tally) }
+    ensures after { b.new ≡ cond counts (tallied_of b.old tally (lent prices.now sheet.old)).after (fed_of b.old prices.now (length sheet.old)).after }
+    ensures sheet { sheet.new ≡ cond counts (tallied_sheet b.old tally (lent prices.now sheet.old)) (sheet_of b.old prices.now sheet.old) }
 {
-    if i < sizes.len() {
-        least(sizes[i] as usize, left)
+    if counts {
+        tallies::feed(b, tally, prices, sheet)
     } else {
-        left
+        bar_box::feed(b, prices, sheet)?;
+        Ok(tally)
     }
 }
 
-// Feeds of these sizes and a last one of what they leave, where one feed of all the bars is not refused.
+// Feeds of these sizes, each of no more bars than are left, and a last one of what they leave, where one feed of all the bars is not refused.
 fn take_parts(
-    b: BarBox,
+    b: &mut BarBox,
     counts: bool,
     tally: [TallyRow; RECOGNISERS],
     sizes: &[u32],
     prices: &[f64],
     sheet: &mut [u8],
-) -> Tallied
-    requires { (verdict_with b tally (lent prices.now sheet.old) ≡ Ok tt) × (Shaped tally) }
+) -> Result<[TallyRow; RECOGNISERS], Refusal>
+    requires { (verdict_with b.old tally (lent prices.now sheet.old) ≡ Ok tt) × (Shaped tally) }
     ensures { let f = lent prices.now sheet.old in
-        let one = tallied_of b tally f in
-        (result ≡ record { verdict = one.verdict; after = one.after; tally = cond counts one.tally tally }) × (sheet.new ≡ tallied_sheet b tally f) }
+        let one = tallied_of b.old tally f in
+        (result ≡ answered one.verdict (cond counts one.tally tally)) × (b.new ≡ one.after) × (sheet.new ≡ tallied_sheet b.old tally f) }
 {
+    // read for the proof, which is then told how many places a box has
+    let _first = b.bars[0].ordinal;
     let total = measures::count(prices);
-    // what a feed hands back is kept as it is: a box that is taken out of it is copied
-    let mut out = Outcome {
-        after: b,
-        verdict: Ok(()),
-    };
     let mut table = tally;
     let mut done = 0usize;
-    let mut i = 0usize;
-    while i <= sizes.len() {
-        let n = part_size(sizes, i, total - done);
+    for size in sizes {
+        let n = least(*size as usize, total - done);
         let first = 4 * done;
         let past = 4 * (done + n);
         let at = ROW_BYTES * done;
-        let bars = &prices[first..past];
-        let rows = &mut sheet[at..];
-        if counts {
-            let fed = tallies::feed(out.after, table, bars, rows);
-            let after = fed.after;
-            let verdict = fed.verdict;
-            out = Outcome { after, verdict };
-            table = fed.tally;
-        } else {
-            out = bar_box::feed(out.after, bars, rows);
-        }
+        table = feed_part(b, counts, table, &prices[first..past], &mut sheet[at..])?;
         done += n;
-        i += 1;
     }
-    let after = out.after;
-    Tallied {
-        verdict: Ok(()),
-        after,
-        tally: table,
-    }
+    let end = 4 * total;
+    feed_part(
+        b,
+        counts,
+        table,
+        &prices[4 * done..end],
+        &mut sheet[ROW_BYTES * done..],
+    )
 }
 
 // Feeds of these sizes and a last one of what they leave, which bring the tally along and count into it if they are told to; or the refusal of
 // one feed of all the bars.
 pub fn feed_parts(
-    b: BarBox,
+    b: &mut BarBox,
     counts: bool,
     tally: [TallyRow; RECOGNISERS],
     sizes: &[u32],
     prices: &[f64],
     sheet: &mut [u8],
-) -> Tallied
+) -> Result<[TallyRow; RECOGNISERS], Refusal>
     ensures { let f = lent prices.now sheet.old in
-        let one = tallied_of b tally f in
-        (result ≡ record { verdict = one.verdict; after = one.after; tally = cond counts one.tally tally }) × (sheet.new ≡ tallied_sheet b tally f) }
+        let one = tallied_of b.old tally f in
+        (result ≡ answered one.verdict (cond counts one.tally tally)) × (b.new ≡ one.after) × (sheet.new ≡ tallied_sheet b.old tally f) }
 {
-    let t = b.thresholds;
-    match tally_verdict(t, b.count, tally, prices.len(), sheet.len()) {
-        Err(why) => Tallied {
-            verdict: Err(why),
-            after: b,
-            tally,
-        },
-        Ok(()) => take_parts(b, counts, tally, sizes, prices, sheet),
-    }
+    tally_verdict(b.thresholds, b.count, tally, prices.len(), sheet.len())?;
+    take_parts(b, counts, tally, sizes, prices, sheet)
 }

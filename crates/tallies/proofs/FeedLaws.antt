@@ -1,9 +1,10 @@
 -- A feed with a tally beside one without: its verdict, and what an accepted one leaves. Assumes nothing.
-use Rattle.std.specs.Prelude.{Err, Ok}
+use Rattle.std.specs.Prelude.{Result, Err, Ok}
+use Rattle.answers.specs.Refusal.{Verdict}
 use Prim.Native.Nat.{ℕ, ◌+◌, ◌*◌}
 use mathlib.Core.Bool.{true}
 use mathlib.Core.List.{List}
-use mathlib.Core.Path.{◌≡◌, sym, ◌∙◌}
+use mathlib.Core.Path.{◌≡◌, refl, sym, ◌∙◌}
 use borrow.Author.Tests.{not-false}
 use lib.ListN.{length, take, drop}
 use lib.Seq.{take_at}
@@ -20,7 +21,7 @@ use Rattle.bar_box.proofs.SheetLaws.{length-rows}
 use Rattle.bar_box.proofs.FeedSteps.{none_true}
 use Rattle.tallies.specs.declared.table.TallyRow.{TallyRow}
 use Rattle.tallies.specs.Tally.{adds_up, counted}
-use Rattle.tallies.specs.Feed.{tally_verdict, verdict_with, tallied_of}
+use Rattle.tallies.specs.Feed.{tally_verdict, verdict_with, tallied_of, answered, verdict_in}
 
 -- ---- the verdict
 
@@ -69,3 +70,15 @@ module _ (b : BarBox) (tally : List TallyRow) (f : Feed) where
     pub tallied-accepted : tallied_of b tally f ≡ record { verdict = Ok tt; after = taken_in b (bars_of f.prices); tally = counted rows tally }
     unfolding tallied_of fed_of
     tallied-accepted = rw (e, accepted-plain e, rows_written)
+
+-- ---- what it answers
+
+-- the verdict in the answer to it
+pub verdict-answered : (v : Verdict) (tally : List TallyRow) → verdict_in (answered v tally) ≡ v
+verdict-answered (Ok tt) tally = refl
+verdict-answered (Err r) tally = refl
+
+-- the table in an answer
+pub answered-table : (v : Verdict) (s t : List TallyRow) (x : Result (List TallyRow) Refusal) → x ≡ Ok s → x ≡ answered v t → s ≡ t
+answered-table (Ok tt) s t x is told = cc
+answered-table (Err r) s t x is told = cc

@@ -1,54 +1,31 @@
 -- Rows and what they add up to, and cells that gain a number. Assumes nothing.
 use Prim.Native.Nat.{ℕ, zero, suc, ◌+◌, ◌≤◌, ◌<◌}
-use mathlib.Core.Bool.{Bool, true, false, cond, ◌&&◌, and-eq-true_iff}
-use mathlib.Core.List.{List, [], ◌∷◌, ◌++◌}
+use mathlib.Core.Bool.{Bool, true, false, cond, and-eq-true_iff}
+use mathlib.Core.List.{List, [], ◌∷◌}
 use mathlib.Core.Path.{◌≡◌, refl, ap, ◌∙◌}
 use native.Mathlib.Nat.{add-zero, add_assoc, not-suc-le-zero}
 use native.Mathlib.Omega.{arith}
 use borrow.Author.Tests.{eqb-true, eq-eqb, ne_eqb, eqb-false}
 use lib.Dec.{eqb}
 use lib.ListN.{length, get_or}
+use Rattle.std.proofs.lemmas.List.Sums.{sum_by-cons}
 use Rattle.tallies.specs.declared.table.TallyRow.{TallyRow}
 use Rattle.tallies.specs.Tally.{row_of_counts, counts_of, total_of, adds_up, by_place, gain_row, gained}
 use Rattle.tallies.proofs.PlaceLaws.{at_place, same-places, place-place, places-kept, places-past}
 
--- what holds of the numbers below n, and of n, holds of those below n + 1
-pub before-or-last : (P : ℕ → Type 0) (n : ℕ) → ((i : ℕ) → i < n → P i) → P n → (i : ℕ) → i < n + 1 → P i
-before-or-last P n below last i h = go (eqb i n) refl
-  where
-    go : (t : Bool) → eqb i n ≡ t → P i
-    go true e = rw (eqb-true i n e) last
-    go false e = let other = eqb-false i n e in below i (omega arith)
-
 -- ---- what a row adds up to
 
-pub total-snoc : (counts : List ℕ) (count : ℕ) → total_of (counts ++ (count ∷ [])) ≡ total_of counts + count
+total-cons : (count : ℕ) (counts : List ℕ) → total_of (count ∷ counts) ≡ count + total_of counts
 unfolding total_of
-total-snoc [] count = omega arith
-total-snoc (x ∷ counts) count = omega (arith, total-snoc counts count)
+total-cons count counts = sum_by-cons (λ x. x) count counts
 
 -- no count is more than its row's total
 pub cell-total : (counts : List ℕ) (c : ℕ) → get_or counts c 0 ≤ total_of counts
-unfolding total_of
 cell-total [] c = omega arith
-cell-total (x ∷ counts) zero = omega arith
-cell-total (x ∷ counts) (suc c) = omega (arith, cell-total counts c)
+cell-total (x ∷ counts) zero = omega (arith, total-cons x counts)
+cell-total (x ∷ counts) (suc c) = omega (arith, total-cons x counts, cell-total counts c)
 
 -- ---- whether each row adds up to n
-
-pub adds-snoc : (n : ℕ) (tally : List TallyRow) (row : TallyRow) → adds_up n (tally ++ (row ∷ [])) ≡ (adds_up n tally && eqb (total_of row.counts) n)
-unfolding adds_up
-adds-snoc n [] row = go (eqb (total_of row.counts) n)
-  where
-    go : (t : Bool) → (t && true) ≡ t
-    go true = refl
-    go false = refl
-adds-snoc n (x ∷ tally) row = go (eqb (total_of x.counts) n) (adds-snoc n tally row)
-  where
-    go : (t : Bool) → adds_up n (tally ++ (row ∷ [])) ≡ (adds_up n tally && eqb (total_of row.counts) n)
-        → (t && adds_up n (tally ++ (row ∷ []))) ≡ ((t && adds_up n tally) && eqb (total_of row.counts) n)
-    go true e = e
-    go false e = refl
 
 pub row-adds : (n : ℕ) (tally : List TallyRow) → adds_up n tally ≡ true → (k : ℕ) → k < length tally → total_of (counts_of tally k) ≡ n
 unfolding adds_up
@@ -75,9 +52,11 @@ gain-none counts = places-kept (λ c count. count + 0) 0 counts (λ c x. add-zer
 
 -- a row that gains one at one of its codes adds up to one more
 ones : (v c : ℕ) (counts : List ℕ) → c ≤ v → v < c + length counts → total_of (by_place (λ i count. count + cond (eqb v i) 1 0) c counts) ≡ total_of counts + 1
-unfolding by_place total_of
+unfolding by_place
 ones v c [] from below = absurd (let z : ⊥ = omega arith in z)
-ones v c (x ∷ counts) from below = go (eqb v c) refl (λ later. ones v (c + 1) counts later (omega arith))
+ones v c (x ∷ counts) from below =
+    rw (total-cons (x + cond (eqb v c) 1 0) (by_place (λ i count. count + cond (eqb v i) 1 0) (c + 1) counts), total-cons x counts)
+    (go (eqb v c) refl (λ later. ones v (c + 1) counts later (omega arith)))
   where
     go : (t : Bool) → eqb v c ≡ t → (c + 1 ≤ v → total_of (by_place (λ i count. count + cond (eqb v i) 1 0) (c + 1) counts) ≡ total_of counts + 1)
         → x + cond t 1 0 + total_of (by_place (λ i count. count + cond (eqb v i) 1 0) (c + 1) counts) ≡ x + total_of counts + 1

@@ -1,5 +1,6 @@
 -- "A tally of labels for each instrument": the table, and what counting the rows of a sheet makes of it.
-use Rattle.std.specs.Prelude.{ℕ, zero, suc, ◌+◌, ◌*◌, ◌/◌, ◌<◌, Bool, true, cond, ◌&&◌, List, [], ◌∷◌, ◌≡◌, eqb, length, get_or, replicate}
+use Rattle.std.specs.Prelude.{ℕ, zero, suc, ◌+◌, ◌*◌, ◌/◌, ◌<◌, Bool, cond, List, [], ◌∷◌, ◌≡◌, ◌==◌, eqb, length, get_or, sum, replicate}
+use Rattle.std.specs.List.{list_all}
 use Rattle.recognisers.specs.Number.{recognisers, labels, row_bytes}
 use Rattle.tallies.specs.declared.table.TallyRow.{TallyRow}
 
@@ -26,13 +27,11 @@ Shaped tally = (length tally ≡ recognisers) × ((k : ℕ) → k < recognisers 
 
 -- what the counts of a row add up to
 unfoldable pub total_of : List ℕ → ℕ
-total_of [] = 0
-total_of (count ∷ counts) = count + total_of counts
+total_of counts = sum counts
 
 -- whether each row adds up to n
 unfoldable pub adds_up : ℕ → List TallyRow → Bool
-adds_up n [] = true
-adds_up n (row ∷ tally) = eqb (total_of row.counts) n && adds_up n tally
+adds_up n tally = list_all (λ row. total_of row.counts == n) tally
 
 -- ---- the rows of a sheet
 

@@ -17,11 +17,9 @@ fn count_row(sheet: &[u8], i: usize, numbers: &mut [u32])
     requires { (Known sheet.now) × (i < length sheet.now / row_bytes) × (i < most_bars) × (Counted sheet.now i numbers.old) }
     ensures { Counted sheet.now (i + 1) numbers.new }
 {
-    let mut k = 0usize;
-    while k < RECOGNISERS {
-        let code = sheet[ROW_BYTES * i + 2 * k] as usize;
+    for k in 0..RECOGNISERS {
+        let code = usize::from(sheet[ROW_BYTES * i + 2 * k]);
         numbers[LABELS * k + code] += 1;
-        k += 1;
     }
 }
 
@@ -32,10 +30,8 @@ fn count_rows(sheet: &[u8]) -> [u32; CELLS]
 {
     let n = sheet.len() / ROW_BYTES;
     let mut numbers = [0u32; CELLS];
-    let mut i = 0usize;
-    while i < n {
+    for i in 0..n {
         count_row(sheet, i, &mut numbers);
-        i += 1;
     }
     numbers
 }
@@ -46,10 +42,8 @@ fn add_row(row: TallyRow, k: usize, numbers: &[u32]) -> TallyRow
     ensures { result.counts ≡ gain_row (λ c. get_or numbers.now (labels * k + c) 0) row.counts }
 {
     let mut counts = row.counts;
-    let mut c = 0usize;
-    while c < LABELS {
+    for c in 0..LABELS {
         counts[c] += numbers[LABELS * k + c];
-        c += 1;
     }
     TallyRow { counts }
 }
@@ -60,11 +54,8 @@ fn add(tally: [TallyRow; RECOGNISERS], numbers: &[u32]) -> [TallyRow; RECOGNISER
     ensures { result ≡ gained (λ k c. get_or numbers.now (labels * k + c) 0) tally }
 {
     let mut next = tally;
-    let mut k = 0usize;
-    while k < RECOGNISERS {
-        let row = tally[k];
-        next[k] = add_row(row, k, numbers);
-        k += 1;
+    for k in 0..RECOGNISERS {
+        next[k] = add_row(tally[k], k, numbers);
     }
     next
 }

@@ -8,5 +8,5 @@ mod counts;
 pub mod feeds;
 pub mod table;
 
-pub use feeds::{Tallied, feed};
+pub use feeds::feed;
 pub use table::{TallyRow, fresh};

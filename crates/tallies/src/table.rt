@@ -1,5 +1,5 @@
 // The table: eighteen rows, one for each recogniser, and thirty-eight columns, one for each label, by its code.
-ghost use Rattle.std.specs.Prelude.{◌≡◌, ◌≤◌, length};
+ghost use Rattle.std.specs.Prelude.{◌≡◌, length};
 ghost use Rattle.recognisers.specs.Number.{labels};
 ghost use Rattle.tallies.specs.Tally.{fresh_tally, Shaped, total_of, adds_up};
 
@@ -21,38 +21,20 @@ pub fn fresh() -> [TallyRow; RECOGNISERS]
     [zeros; RECOGNISERS]
 }
 
-// A count in 64 bits.
-fn wide(count: u32) -> u64
-    ensures { (result ≡ count) × (result ≤ 4294967295) }
-{
-    count as u64
-}
-
 // A row's counts added up, in 64 bits: those of a caller's row may pass 32.
-pub(crate) fn total(row: TallyRow) -> u64
-    ensures { (result ≡ total_of row.counts) × (length row.counts ≡ labels) }
+pub(crate) fn total(counts: &[u32; LABELS]) -> u64
+    ensures { (result ≡ total_of counts.now) × (length counts.now ≡ labels) }
 {
-    let counts = row.counts;
-    let mut sum = 0u64;
-    let mut c = 0usize;
-    while c < LABELS {
-        sum += wide(counts[c]);
-        c += 1;
-    }
-    sum
+    counts.iter().map(|count| u64::from(*count)).sum()
 }
 
-// Whether each row adds up to n.
-pub(crate) fn adds_up(tally: [TallyRow; RECOGNISERS], n: u32) -> bool
-    ensures { (result ≡ adds_up n tally) × (Shaped tally) }
+// Whether each row adds up to n. No `all`: each row is read, which shows how long it is.
+pub(crate) fn adds_up(tally: &[TallyRow; RECOGNISERS], n: u32) -> bool
+    ensures { (result ≡ adds_up n tally.now) × (Shaped tally.now) }
 {
     let mut all = true;
-    let mut k = 0usize;
-    while k < RECOGNISERS {
-        let row = tally[k];
-        let sum = total(row);
-        all = all & (sum == n as u64);
-        k += 1;
+    for row in tally {
+        all &= total(&row.counts) == u64::from(n);
     }
     all
 }

@@ -4,4 +4,5 @@ use Rattle.exports.proofs.feeds.jcc_feed.Goals as goal
 
 pub returns : goal.returns
 returns c =
-    (c.verdict_number.ensures ∙ rw (c.fed-out.ensures.0, c.new-t.ensures), c.fed-out.ensures.1 ∙ rw c.new-t.ensures)
+    let fed = c.feed-verdict.ensures in
+    (c.from.ensures ∙ c.verdict_number.ensures ∙ rw (fed.verdict, c.fresh-b.ensures, c.new-t.ensures), fed.sheet ∙ rw (c.fresh-b.ensures, c.new-t.ensures))

@@ -11,23 +11,19 @@ use Rattle.exports.proofs.NumberLaws.{length-numbers, number_of}
 use Rattle.exports.proofs.tally.put.Goals as goal
 
 pub loop-i-init : goal.loop-i-init
-loop-i-init c = (omega arith, refl, sym (overlay-none c.args.numbers.now 0))
-
-pub cell-requires : goal.cell-requires
-cell-requires c =
-    omega (arith, c.least-n.ensures)
+loop-i-init c = (refl, sym (overlay-none c.args.numbers.now 0))
 
 pub loop-i-preserved : goal.loop-i-preserved
 loop-i-preserved c =
     let tally = c.args.tally in
     let i = c.loop-i.i in
-    let most : i < cells = omega (arith, c.least-n.ensures) in
-    let room : i < length c.args.numbers.now = omega (arith, c.least-n.ensures) in
+    let most : i < cells = omega arith in
+    let room : i < length c.args.numbers.now = omega arith in
     let size = length-numbers tally in
-    (omega arith, rw length-set c.loop-i.invariant.1, rw (c.loop-i.invariant.2, c.cell.ensures, ← number_of tally i most) (overlay-copy c.args.numbers.now 0 (numbers_of tally) i i 0 (omega arith) (omega arith) room))
+    (rw length-set c.loop-i.invariant.0, rw (c.loop-i.invariant.1, ← number_of tally i most) (overlay-copy c.args.numbers.now 0 (numbers_of tally) i i 0 (omega arith) (omega arith) room))
 
 pub returns : goal.returns
 returns c =
     let tally = c.args.tally in
     let size = length-numbers tally in
-    c.loop-i.invariant.2 ∙ rw (take_same (numbers_of tally) c.loop-i.i (length c.args.numbers.now) (omega (arith, c.least-n.ensures)))
+    c.loop-i.invariant.1 ∙ rw (take_same (numbers_of tally) c.loop-i.i (length c.args.numbers.now) (omega arith))

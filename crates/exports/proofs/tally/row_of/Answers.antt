@@ -13,7 +13,7 @@ use Rattle.exports.proofs.tally.row_of.Goals as goal
 
 pub loop-c-init : goal.loop-c-init
 unfolding by_place
-loop-c-init c = (omega arith, refl)
+loop-c-init c = refl
 
 pub loop-c-preserved : goal.loop-c-preserved
 loop-c-preserved c =
@@ -24,11 +24,11 @@ loop-c-preserved c =
     let inside : i < length zeros = omega (arith, length-replicate {A = ℕ} labels 0) in
     let change : ℕ → ℕ → ℕ = λ i count. count + get_or numbers (labels * k + i) 0 in
     let number : c.number_at.result ≡ change i (get_or zeros i 0) = c.number_at.ensures ∙ rw (get_or-replicate {A = ℕ} labels i 0 0 (omega arith), zero-add) in
-    (omega arith, rw (c.loop-c.invariant.1, number) (changed-next change zeros i 0 inside))
+    rw (c.loop-c.invariant, number) (changed-next change zeros i 0 inside)
 
 pub returns : goal.returns
 returns c =
     let inv = c.loop-c.invariant in
     let all : c.loop-c.c ≡ labels = omega arith in
     let zeros = replicate {A = ℕ} labels 0 in
-    rw (all, take_all labels zeros (omega (arith, length-replicate {A = ℕ} labels 0)), drop_of_length-le zeros {i = labels} (omega (arith, length-replicate {A = ℕ} labels 0)), append-nil) at inv.1
+    rw (all, take_all labels zeros (omega (arith, length-replicate {A = ℕ} labels 0)), drop_of_length-le zeros {i = labels} (omega (arith, length-replicate {A = ℕ} labels 0)), append-nil) at inv

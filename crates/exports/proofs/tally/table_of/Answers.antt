@@ -16,7 +16,7 @@ use Rattle.exports.proofs.tally.table_of.Goals as goal
 
 pub loop-k-init : goal.loop-k-init
 unfolding by_place
-loop-k-init c = (omega arith, c.fresh-tally.ensures)
+loop-k-init c = c.fresh-tally.ensures
 
 pub loop-k-preserved : goal.loop-k-preserved
 loop-k-preserved c =
@@ -24,11 +24,11 @@ loop-k-preserved c =
     let inside : k < length fresh_tally = omega (arith, fresh-shaped.0) in
     let change : ℕ → TallyRow → TallyRow = λ i row. row_of_counts (gain_row (λ n. get_or c.args.numbers.now (labels * i + n) 0) row.counts) in
     let row : c.row_of.result ≡ change k (get_or fresh_tally k (row_of_counts [])) = ap row_of_counts c.row_of.ensures ∙ rw (fresh-row k (omega arith)) in
-    (omega arith, rw (c.loop-k.invariant.1, row) (changed-next change fresh_tally k (row_of_counts []) inside))
+    rw (c.loop-k.invariant, row) (changed-next change fresh_tally k (row_of_counts []) inside)
 
 pub returns : goal.returns
 unfolding tally_in
 returns c =
     let inv = c.loop-k.invariant in
     let all : c.loop-k.k ≡ recognisers = omega arith in
-    rw (all, take_all recognisers fresh_tally (omega (arith, fresh-shaped.0)), drop_of_length-le fresh_tally {i = recognisers} (omega (arith, fresh-shaped.0)), append-nil) at inv.1
+    rw (all, take_all recognisers fresh_tally (omega (arith, fresh-shaped.0)), drop_of_length-le fresh_tally {i = recognisers} (omega (arith, fresh-shaped.0)), append-nil) at inv

@@ -13,7 +13,7 @@ use Rattle.tallies.proofs.counts.add.Goals as goal
 
 pub loop-k-init : goal.loop-k-init
 unfolding by_place
-loop-k-init c = (omega arith, c.well_formed.0.1.0.1, refl)
+loop-k-init c = (c.well_formed.0.1.0.1, refl)
 
 pub add_row-requires : goal.add_row-requires
 add_row-requires c =
@@ -23,14 +23,14 @@ pub loop-k-preserved : goal.loop-k-preserved
 loop-k-preserved c =
     let tally = c.args.tally in
     let k = c.loop-k.k in
-    let inside : k < length tally = omega (arith, c.loop-k.invariant.1) in
+    let inside : k < length tally = omega (arith, c.loop-k.invariant.0) in
     let change : ℕ → TallyRow → TallyRow = λ i row. row_of_counts (gain_row (λ n. get_or c.args.numbers.now (labels * i + n) 0) row.counts) in
     let row : c.add_row.result ≡ change k (get_or tally k (row_of_counts [])) = ap row_of_counts c.add_row.ensures in
-    (omega arith, c.loop-k.invariant.1, rw (c.loop-k.invariant.2, row) (changed-next change tally k (row_of_counts []) inside))
+    (c.loop-k.invariant.0, rw (c.loop-k.invariant.1, row) (changed-next change tally k (row_of_counts []) inside))
 
 pub returns : goal.returns
 returns c =
     let inv = c.loop-k.invariant in
     let tally = c.args.tally in
     let all : c.loop-k.k ≡ recognisers = omega arith in
-    rw (all, take_all recognisers tally (omega (arith, inv.1)), drop_of_length-le tally {i = recognisers} (omega (arith, inv.1)), append-nil) at inv.2
+    rw (all, take_all recognisers tally (omega (arith, inv.0)), drop_of_length-le tally {i = recognisers} (omega (arith, inv.0)), append-nil) at inv.1

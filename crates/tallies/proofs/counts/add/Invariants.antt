@@ -1,4 +1,4 @@
-use Prim.Native.Nat.{◌+◌, ◌-◌, ◌*◌, ◌≤◌}
+use Prim.Native.Nat.{◌+◌, ◌*◌}
 use mathlib.Core.Path.{◌≡◌}
 use lib.ListN.{length, get_or}
 use Rattle.recognisers.specs.Number.{recognisers, labels}
@@ -7,7 +7,4 @@ use Rattle.tallies.proofs.PlaceLaws.{changed}
 use Rattle.tallies.proofs.counts.add.Given as goal
 
 abbrev pub invariant-loop-k : goal.invariant-loop-k
-invariant-loop-k l = (l.k ≤ recognisers) × (length l.tally ≡ recognisers) × (l.next ≡ changed (λ i row. row_of_counts (gain_row (λ c. get_or l.numbers (labels * i + c) 0) row.counts)) l.k l.tally)
-
-abbrev pub decreases-loop-k : goal.decreases-loop-k
-decreases-loop-k l = recognisers - l.k
+invariant-loop-k l = (length l.tally ≡ recognisers) × (l.next ≡ changed (λ i row. row_of_counts (gain_row (λ c. get_or l.numbers (labels * i + c) 0) row.counts)) l.k l.tally)

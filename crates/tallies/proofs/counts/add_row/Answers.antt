@@ -12,27 +12,27 @@ use Rattle.tallies.proofs.counts.add_row.Goals as goal
 
 pub loop-c-init : goal.loop-c-init
 unfolding by_place
-loop-c-init c = (omega arith, c.well_formed.0.1.1.0.1.0.1, refl)
+loop-c-init c = (c.well_formed.0.1.1.0.1.0.1, refl)
 
 pub overflow_add-counts-in-loop-c : goal.overflow_add-counts-in-loop-c
 overflow_add-counts-in-loop-c c =
     let numbers = c.args.numbers.now in
     let k = c.args.k in
-    let had = changed-at (λ i count. count + get_or numbers (labels * k + i) 0) c.args.row.counts c.loop-c.c 0 (omega (arith, c.loop-c.invariant.1)) in
+    let had = changed-at (λ i count. count + get_or numbers (labels * k + i) 0) c.args.row.counts c.loop-c.c 0 (omega (arith, c.loop-c.invariant.0)) in
     let fits = c.requires.2 c.loop-c.c (omega arith) in
-    rw (c.loop-c.invariant.2, had) (record { fits = fits })
+    rw (c.loop-c.invariant.1, had) (record { fits = fits })
 
 pub loop-c-preserved : goal.loop-c-preserved
 loop-c-preserved c =
     let numbers = c.args.numbers.now in
     let k = c.args.k in
     let counts = c.args.row.counts in
-    let inside : c.loop-c.c < length counts = omega (arith, c.loop-c.invariant.1) in
+    let inside : c.loop-c.c < length counts = omega (arith, c.loop-c.invariant.0) in
     let change : ℕ → ℕ → ℕ = λ i count. count + get_or numbers (labels * k + i) 0 in
-    (omega arith, c.loop-c.invariant.1, rw (c.loop-c.invariant.2, changed-at change counts c.loop-c.c 0 inside) (changed-next change counts c.loop-c.c 0 inside))
+    (c.loop-c.invariant.0, rw (c.loop-c.invariant.1, changed-at change counts c.loop-c.c 0 inside) (changed-next change counts c.loop-c.c 0 inside))
 
 pub returns : goal.returns
 returns c =
     let inv = c.loop-c.invariant in
     let all : c.loop-c.c ≡ labels = omega arith in
-    rw (all, take_all labels c.args.row.counts (omega (arith, inv.1)), drop_of_length-le c.args.row.counts {i = labels} (omega (arith, inv.1)), append-nil) at inv.2
+    rw (all, take_all labels c.args.row.counts (omega (arith, inv.0)), drop_of_length-le c.args.row.counts {i = labels} (omega (arith, inv.0)), append-nil) at inv.1

@@ -6,6 +6,4 @@ use Rattle.tallies.proofs.feeds.tally_verdict.Goals as goal
 
 pub returns : goal.returns
 unfolding tally_verdict checked_tried feed_tried next_after first_true
-returns c =
-    let sums = c.adds_up-right in
-    (c.checked.ensures ∙ rw sums.ensures.0, sums.ensures.1)
+returns c = let sums = c.adds_up.ensures in (c.checked.ensures ∙ rw sums.0, sums.1)

@@ -1,12 +1,10 @@
-use Prim.Native.Nat.{ℕ, ◌-◌, ◌≤◌, ◌<◌}
+-- The rows passed add up to n, or one of them doesn't; each has a count for each label.
+use Prim.Native.Nat.{ℕ, ◌<◌}
 use mathlib.Core.Path.{◌≡◌}
 use lib.ListN.{length, take}
-use Rattle.recognisers.specs.Number.{recognisers, labels}
+use Rattle.recognisers.specs.Number.{labels}
 use Rattle.tallies.specs.Tally.{counts_of, adds_up}
 use Rattle.tallies.proofs.table.adds_up.Given as goal
 
-abbrev pub invariant-loop-k : goal.invariant-loop-k
-invariant-loop-k l = (l.k ≤ recognisers) × (length l.tally ≡ recognisers) × (l.all ≡ adds_up l.n (take l.k l.tally)) × ((j : ℕ) → j < l.k → length (counts_of l.tally j) ≡ labels)
-
-abbrev pub decreases-loop-k : goal.decreases-loop-k
-decreases-loop-k l = recognisers - l.k
+abbrev pub invariant-loop-row : goal.invariant-loop-row
+invariant-loop-row l = (l.all ≡ adds_up l.n (take l.row-index l.tally)) × ((j : ℕ) → j < l.row-index → length (counts_of l.tally j) ≡ labels)
