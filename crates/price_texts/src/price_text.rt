@@ -67,8 +67,10 @@ fn unsigned(s: &[u8]) -> Option<f64>
 pub fn read_price(s: &[u8]) -> Option<f64>
     ensures { result ≡ price_of s.now }
 {
+    if s == b"nan".as_slice() {
+        return Some(price::not_a_number());
+    }
     match s {
-        b"nan" => Some(price::not_a_number()),
         [b'-', rest @ ..] => unsigned(rest).map(|x| -x),
         _ => unsigned(s),
     }
