@@ -160,7 +160,7 @@ fn is_room<S: Side>(w: &[f64], before: u32, ordinal: u32, y: f64) -> bool
 }
 
 // The places that make no room, up to the first that does, go to the first places of another; and how many they are. A place is put as it is
-// passed: a count by `position` and a copy of as many take 301 instructions a bar in all, and this loop 220.
+// passed: a count by `position` and a copy of as many takes 301 instructions a bar in all, this loop 214.
 fn keep<S: Side>(left: &[u32], w: &[f64], before: u32, y: f64, out: &mut [u32]) -> usize
     requires { length left.now ≤ length out.old }
     ensures { (result ≡ position_or_len (is_room S.beyond y (bar_price S.column before (bars_of w.now))) left.now)
