@@ -4,20 +4,20 @@ use mathlib.Core.Path.{◌≡◌, refl, sym, ap, ◌∙◌}
 use mathlib.Core.Bool.{Bool, true, false, cond, not}
 use mathlib.Core.List.{List, [], ◌∷◌, ◌++◌, append_assoc, append-nil}
 use native.Mathlib.Omega.{arith}
-use lib.Dec.{eqb, ltb}
+use lib.Dec.{eqb}
 use lib.ListN.{length, get_or, take, drop, set, replicate, length-take, length-append}
-use lib.Seq.{drop-nil, set_at, length-take-le}
+use lib.Seq.{drop-nil, drop-cons, drop-length, set_at, length-take-le}
 use lib.Ieee.{Float, is_nan}
 use Rattle.measures.specs.Bar.{Bar}
 use Rattle.measures.specs.declared.folds.Column.{Column}
 use Rattle.measures.specs.Fold.{price_of}
 use Rattle.measures.specs.Window.{back_of}
 use Rattle.held_extremes.specs.Candidate.{placed}
-use Rattle.std.specs.Prelude.{position, unwrap_or, Some, None}
 use Rattle.std.specs.List.{position_or_len}
-use borrow.Author.Tests.{ltb-false}
 use Rattle.held_extremes.specs.CandidateSteps.{bar_price, left_of, is_room, room_for, entered, next_ordinals}
 use Rattle.rule_types.specs.Number.{quarter_bars}
+use Rattle.rule_types.proofs.ListLaws.{place-next}
+use native.Mathlib.Numerals.{add-one}
 
 -- the places that make no room, up to the first that does, as the code counts them
 module _ (beyond : Float → Float → Bool) (y : Float) (price : ℕ → Float) where
@@ -41,16 +41,33 @@ module _ (beyond : Float → Float → Bool) (y : Float) (price : ℕ → Float)
       go true h = refl
       go false h = let e : 1 + kept os ≡ suc (kept os) = omega arith in rw e (ap (λ (l : List ℕ). o ∷ l) h)
 
-  counted : (os : List ℕ) → unwrap_or (position (is_room beyond y price) os) (length os) ≡ kept os
-  counted os = go (ltb (kept os) (length os)) refl
-    where
-      go : (t : Bool) → ltb (kept os) (length os) ≡ t → unwrap_or (cond t (Some (kept os)) None) (length os) ≡ kept os
-      go true e = refl
-      go false e = omega (arith, ltb-false (kept os) (length os) e, kept-few os)
+  pub room-first : (os : List ℕ) (k : ℕ) → k ≡ kept os → (room_for beyond y price os ≡ take k os) × (k ≤ length os)
+  room-first os k e = rw e (room-taken os, kept-few os)
 
-  pub room-first : (os : List ℕ) (k : ℕ) → k ≡ unwrap_or (position (is_room beyond y price) os) (length os)
-      → (room_for beyond y price os ≡ take k os) × (k ≤ length os)
-  room-first os k e = rw (e, counted os) (room-taken os, kept-few os)
+  -- ---- the loop: the places passed make no room, and are put over others
+  module _ (left was : List ℕ) where
+    abbrev pub Passed : List ℕ → ℕ → Type 0
+    Passed out i = (kept left ≡ i + kept (drop i left)) × (out ≡ take i left ++ drop i was)
+
+    pub none-passed : Passed was 0
+    none-passed = (omega arith, refl)
+
+    pub room-here : (out : List ℕ) (i : ℕ) (t : Bool) → i < length left → t ≡ is_room beyond y price (get_or left i 0) → t ≡ true → Passed out i
+        → (i ≡ kept left) × (out ≡ take i left ++ drop i was)
+    room-here out i t h e is p =
+        let none : kept (drop i left) ≡ 0 = rw (drop-cons left i 0 h, ← e, is) in
+        (omega (arith, none, p.0), p.1)
+
+    pub one-passed : (out : List ℕ) (i : ℕ) (t : Bool) → i < length left → length left ≤ length was → t ≡ is_room beyond y price (get_or left i 0) → t ≡ false → Passed out i
+        → Passed (set out i (get_or left i 0)) (i + 1)
+    one-passed out i t h g e is p =
+        let one : kept (drop i left) ≡ 1 + kept (drop (suc i) left) = rw (drop-cons left i 0 h, ← e, is) in
+        (p.0 ∙ rw (one, add-one) (omega arith), rw p.1 (place-next left was i 0 h (omega arith)))
+
+    pub all-passed : (out : List ℕ) (i : ℕ) → i ≡ length left → Passed out i → (length left ≡ kept left) × (out ≡ take (length left) left ++ drop (length left) was)
+    all-passed out i e p =
+        let none : kept (drop i left) ≡ 0 = rw (e, drop-length left) in
+        rw (← e) (omega (arith, none, p.0), p.1)
 
 -- the places without the bar that falls out
 left-drop : (oldest : ℕ) (places : List ℕ) → left_of oldest places ≡ drop (cond (eqb (get_or places 0 0) oldest) 1 0) places
@@ -82,8 +99,8 @@ entered-placed room k last y size less = go (is_nan y)
 module _ (beyond : Float → Float → Bool) (c : Column) (before last : ℕ) (bars : List Bar) (held : List ℕ) (full : length held ≡ quarter_bars) where
   pub next-places : (y : Float) (from k : ℕ) (copied out : List ℕ) → y ≡ price_of c (back_of bars 1) → from ≡ cond (eqb (get_or held 0 0) (last - quarter_bars)) 1 0
       → (let left = take (quarter_bars - 1) (drop from held) in
-      k ≡ unwrap_or (position (is_room beyond y (bar_price c before bars)) left) (length left) → copied ≡ take k left
-      → out ≡ cond (is_nan y) (copied ++ drop k (replicate quarter_bars 0)) (set (copied ++ drop k (replicate quarter_bars 0)) k last) → out ≡ placed (next_ordinals beyond c before last bars held))
+      k ≡ position_or_len (is_room beyond y (bar_price c before bars)) left → copied ≡ take k left ++ drop k (replicate quarter_bars 0)
+      → out ≡ cond (is_nan y) copied (set copied k last) → out ≡ placed (next_ordinals beyond c before last bars held))
   next-places y from k copied out price start count copy put =
       let left = take (quarter_bars - 1) (drop from held) in
       let room = room-first beyond y (bar_price c before bars) left k count in

@@ -14,7 +14,7 @@ returns g c =
     let from = c.after_oldest-from.result in
     let size : from + 19 - from ≡ 19 = omega arith in
     let left = take 19 (drop from a.held.now) in
-    let places = next-places s.beyond s.column a.before a.last (bars_of a.w.now) a.held.now c.told-held c.price-y.result from c.kept-k.result c.copy_from_slice.new.self c.put_new.new.out
+    let places = next-places s.beyond s.column a.before a.last (bars_of a.w.now) a.held.now c.told-held c.price-y.result from c.keep-k.result c.keep-k.new.out c.put_new.new.out
     (c.price-y.ensures ∙ rw c.back.ensures) c.after_oldest-from.ensures
-    (rw size at c.kept-k.ensures) (rw size at c.copy_from_slice.ensures.after) c.put_new.ensures in
+    (rw size at c.keep-k.ensures.0) (rw size at c.keep-k.ensures.1) c.put_new.ensures in
     rw (c.price_with-foremost.ensures, places)
