@@ -12,19 +12,30 @@ use Rattle.recognisers.specs.Number.{longest_line}
 use Rattle.answers.specs.declared.refusals.Refusal.TheVariants as refusal
 use Rattle.answers.specs.declared.refusals.Verdict.{Verdict, TheVariants.Accepted, TheVariants.Denied}
 use Rattle.recognisers.specs.Refusal.{bad_shape, bad_price, first_true, verdict_number}
-use Rattle.price_texts.specs.declared.price_text.Price.{Price}
+use Rattle.std.specs.Prelude.{Float, Some, None, Ok, Err}
+use Rattle.std.specs.Option.{ok_or}
+use Rattle.price_texts.specs.PriceText.{Price}
 use Rattle.input_lines.specs.Lines.{kept_line}
-use Rattle.text.specs.declared.line_text.Line.{Line, TheVariants.BadShape}
-use Rattle.text.specs.LineText.{prices_in, all_prices, leftmost_bad, line_verdict, verdict_in, bad_places, answer_to, said_of, line_of, verdict_of, places_in, fields_line}
+use Rattle.text.specs.declared.line_text.LineError.{LineError, TheVariants.BadShape, TheVariants.BadPrice}
+use Rattle.text.specs.LineText.{Line, prices_in, all_prices, leftmost_bad, line_verdict, verdict_in, bad_places, answer_to, said_of, line_of, verdict_of, places_in, fields_line}
+
+-- a field that is read: one that is no price, and a price
+pub refused_is : (p : Price) (place : ℕ) (d : LineError) → ok_or p (BadPrice place) ≡ Err d → (p ≡ None) × (d ≡ BadPrice place)
+refused_is None place d e = (refl, cc)
+refused_is (Some x) place d e = absurd (cc)
+
+pub priced_is : (p : Price) (place : ℕ) (x : Float) → ok_or p (BadPrice place) ≡ Ok x → p ≡ Some x
+priced_is None place x e = absurd (cc)
+priced_is (Some y) place x e = cc
 
 -- five fields or more
-pub too_many : (o c h l : List ℕ) (rest : List (List ℕ)) → 1 ≤ length rest → BadShape ≡ fields_line (o ∷ c ∷ h ∷ l ∷ rest)
+pub too_many : (o c h l : List ℕ) (rest : List (List ℕ)) → 1 ≤ length rest → Err BadShape ≡ fields_line (o ∷ c ∷ h ∷ l ∷ rest)
 unfolding fields_line said_of line_verdict first_true
 too_many o c h l rest some = rw (length-map, ne_eqb (length (o ∷ c ∷ h ∷ l ∷ rest)) 4 (λ e. omega arith))
 
 -- a line that is too long, and one that isn't, whose bytes don't matter further
 module _ (bytes : ℕ) (fields : List Price) where
-  pub too_long : longest_line < bytes → said_of bytes fields ≡ BadShape
+  pub too_long : longest_line < bytes → said_of bytes fields ≡ Err BadShape
   unfolding said_of line_verdict first_true
   too_long long = rw (lt-ltb longest_line bytes long)
 

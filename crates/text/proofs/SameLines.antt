@@ -14,9 +14,10 @@ use Rattle.answers.specs.declared.refusals.Refusal.TheVariants as refusal
 use Rattle.answers.specs.declared.refusals.Verdict.{Verdict, TheVariants.Accepted, TheVariants.Denied}
 use Rattle.recognisers.specs.Number.{longest_line}
 use Rattle.recognisers.specs.Refusal.{first_true}
-use Rattle.price_texts.specs.declared.price_text.Price.{Price, TheVariants.Value, TheVariants.Bad}
-use Rattle.text.specs.declared.line_text.Line.{Line, TheVariants.Prices, TheVariants.BadShape, TheVariants.BadPrice}
-use Rattle.text.specs.LineText.{prices_in, is_price, all_prices, prices_before, leftmost_bad, line_verdict, value_of, value_at, answer_to, said_of, line_of, places_in}
+use Rattle.std.specs.Prelude.{Some, None, Ok, Err}
+use Rattle.price_texts.specs.PriceText.{Price}
+use Rattle.text.specs.declared.line_text.LineError.TheVariants.{BadShape, BadPrice}
+use Rattle.text.specs.LineText.{Line, prices_in, is_price, all_prices, prices_before, leftmost_bad, line_verdict, value_of, value_at, answer_to, said_of, line_of, places_in}
 use Rattle.text.specs.SameLines.{four_of, Leftmost, SameLines}
 use Rattle.input_lines.proofs.RunLaws.{both}
 use Rattle.text.proofs.LineTextLaws.{said-verdict}
@@ -25,11 +26,11 @@ use Rattle.text.proofs.LineTextLaws.{said-verdict}
 
 -- where not all are prices, the leftmost that is none
 leftmost : (fields : List Price) → all_prices fields ≡ false
-    → (prices_before fields < length fields) × (get_or fields (prices_before fields) (Value nan) ≡ Bad) × (all_prices (take (prices_before fields) fields) ≡ true)
+    → (prices_before fields < length fields) × (get_or fields (prices_before fields) (Some nan) ≡ None) × (all_prices (take (prices_before fields) fields) ≡ true)
 unfolding all_prices prices_before
 leftmost [] e = absurd (true≢false e)
-leftmost (Value x ∷ fields) e = let rest = leftmost fields e in (omega (arith, rest.0), rest.1, rest.2)
-leftmost (Bad ∷ fields) e = (omega arith, refl, refl)
+leftmost (Some x ∷ fields) e = let rest = leftmost fields e in (omega (arith, rest.0), rest.1, rest.2)
+leftmost (None ∷ fields) e = (omega arith, refl, refl)
 
 leftmost-of-four : (fields : List Price) → length fields ≡ 4 → all_prices fields ≡ false → Leftmost fields (leftmost_bad fields)
 leftmost-of-four fields four e =
@@ -38,9 +39,9 @@ leftmost-of-four fields four e =
     (omega arith, omega (arith, is.0), rw before is.1, rw before is.2)
 
 -- four prices are their values
-is-value : (p : Price) → is_price p ≡ true → p ≡ Value (value_of p)
-is-value (Value x) e = refl
-is-value Bad e = absurd (false≢true e)
+is-value : (p : Price) → is_price p ≡ true → p ≡ Some (value_of p)
+is-value (Some x) e = refl
+is-value None e = absurd (false≢true e)
 
 abbrev bar_in : List Price → Bar
 bar_in fields = bar_of (value_at fields 0) (value_at fields 1) (value_at fields 2) (value_at fields 3)
@@ -59,8 +60,8 @@ four-values (a ∷ b ∷ c ∷ d ∷ []) n e =
     let d-is = both (is_price d) _ c-is.1 in
     go a b c d (is-value a a-is.0) (is-value b b-is.0) (is-value c c-is.0) (is-value d d-is.0)
   where
-    go : (a b c d : Price) → a ≡ Value (value_of a) → b ≡ Value (value_of b) → c ≡ Value (value_of c) → d ≡ Value (value_of d)
-        → a ∷ b ∷ c ∷ d ∷ [] ≡ Value (value_of a) ∷ Value (value_of b) ∷ Value (value_of c) ∷ Value (value_of d) ∷ []
+    go : (a b c d : Price) → a ≡ Some (value_of a) → b ≡ Some (value_of b) → c ≡ Some (value_of c) → d ≡ Some (value_of d)
+        → a ∷ b ∷ c ∷ d ∷ [] ≡ Some (value_of a) ∷ Some (value_of b) ∷ Some (value_of c) ∷ Some (value_of d) ∷ []
     go a b c d p q r s = cc
 
 -- ---- the tests
@@ -104,17 +105,17 @@ not-both false four all = refl
 -- ---- what is said
 
 abbrev bar_of_line : Line → Bar
-bar_of_line (Prices bar) = bar
-bar_of_line BadShape = no_bar
-bar_of_line (BadPrice place) = no_bar
+bar_of_line (Ok bar) = bar
+bar_of_line (Err BadShape) = no_bar
+bar_of_line (Err (BadPrice place)) = no_bar
 
 abbrev is_bar : Line → Bool
-is_bar (Prices bar) = true
-is_bar BadShape = false
-is_bar (BadPrice place) = false
+is_bar (Ok bar) = true
+is_bar (Err BadShape) = false
+is_bar (Err (BadPrice place)) = false
 
 module _ (fields : List Price) (bar : Bar) where
-  said-prices : (short four all : Bool) → answer_to (first (by8 short four) (by9 short four all)) fields ≡ Prices bar
+  said-prices : (short four all : Bool) → answer_to (first (by8 short four) (by9 short four all)) fields ≡ Ok bar
       → (short ≡ true) × (four ≡ true) × (all ≡ true) × (bar_in fields ≡ bar)
   said-prices true true true e = (refl, refl, refl, ap bar_of_line e)
   said-prices true true false e = absurd (false≢true (ap is_bar e))
@@ -154,12 +155,12 @@ module _ (s : List ℕ) where
   said = rw (longer (length s))
 
   module _ (bar : Bar) where
-    said-four : line_of s ≡ Prices bar → (length s ≤ longest_line) × (fields ≡ four_of bar)
+    said-four : line_of s ≡ Ok bar → (length s ≤ longest_line) × (fields ≡ four_of bar)
     said-four e =
         let is = said-prices fields bar short four all (sym said ∙ e) in
         (leb-true (length s) longest_line is.0, four-values fields (eqb-true (length fields) 4 is.1) is.2 ∙ ap four_of is.3)
 
-    four-said : length s ≤ longest_line → fields ≡ four_of bar → line_of s ≡ Prices bar
+    four-said : length s ≤ longest_line → fields ≡ four_of bar → line_of s ≡ Ok bar
     unfolding all_prices
     four-said le e = said ∙ rw (le-leb (length s) longest_line le, e)
 

@@ -1,13 +1,12 @@
 -- "The other ways in", text: a line is open,close,high,low; and why a line is refused, by 8 or 9.
-use Rattle.std.specs.Prelude.{ℕ, suc, Bool, true, false, cond, ◌&&◌, List, [], ◌∷◌, map, eqb, length, get_or, Float}
+use Rattle.std.specs.Prelude.{ℕ, suc, Bool, true, false, cond, ◌&&◌, List, [], ◌∷◌, map, eqb, length, get_or, Float, Some, None, Result, Ok, Err}
 use Rattle.std.specs.Float.{nan}
-use Rattle.measures.specs.Bar.{bar_of}
+use Rattle.measures.specs.Bar.{Bar, bar_of}
 use Rattle.answers.specs.declared.refusals.Refusal.TheVariants as refusal
 use Rattle.answers.specs.declared.refusals.Verdict.{Verdict, TheVariants.Accepted, TheVariants.Denied}
 use Rattle.recognisers.specs.Refusal.{refusal_number, bad_shape, bad_price, first_true, verdict_number}
-use Rattle.price_texts.specs.declared.price_text.Price.{Price, TheVariants.Value, TheVariants.Bad}
-use Rattle.text.specs.declared.line_text.Line.{Line, TheVariants.Prices, TheVariants.BadShape, TheVariants.BadPrice}
-use Rattle.price_texts.specs.PriceText.{price_of}
+use Rattle.text.specs.declared.line_text.LineError.{LineError, TheVariants.BadShape, TheVariants.BadPrice}
+use Rattle.price_texts.specs.PriceText.{Price, price_of}
 use Rattle.input_lines.specs.Lines.{comma, pieces_of}
 
 -- ---- fields
@@ -17,8 +16,8 @@ abbrev pub prices_in : List ℕ → List Price
 prices_in s = map price_of (pieces_of comma s)
 
 abbrev pub is_price : Price → Bool
-is_price (Value x) = true
-is_price Bad = false
+is_price (Some x) = true
+is_price None = false
 
 unfoldable pub all_prices : List Price → Bool
 all_prices [] = true
@@ -27,8 +26,8 @@ all_prices (p ∷ ps) = is_price p && all_prices ps
 -- how many prices come before the leftmost field that is none, and its place, from 1
 unfoldable pub prices_before : List Price → ℕ
 prices_before [] = 0
-prices_before (Value x ∷ ps) = suc (prices_before ps)
-prices_before (Bad ∷ ps) = 0
+prices_before (Some x ∷ ps) = suc (prices_before ps)
+prices_before (None ∷ ps) = 0
 
 abbrev pub leftmost_bad : List Price → ℕ
 leftmost_bad fields = suc (prices_before fields)
@@ -46,20 +45,23 @@ verdict_in s = line_verdict (length s) (prices_in s)
 abbrev pub bad_places : List ℕ → List ℕ
 bad_places s = cond (eqb (verdict_number (verdict_in s)) 9) (leftmost_bad (prices_in s) ∷ []) []
 
--- ---- what a line says
+-- ---- what a line says: a bar, or why it is none
+
+abbrev pub Line : Type 0
+Line = Result Bar LineError
 
 -- the value of the field at a place, from 0; one that is no price is never asked for
 abbrev pub value_of : Price → Float
-value_of (Value x) = x
-value_of Bad = nan
+value_of (Some x) = x
+value_of None = nan
 
 abbrev pub value_at : List Price → ℕ → Float
-value_at fields i = value_of (get_or fields i Bad)
+value_at fields i = value_of (get_or fields i None)
 
 -- the bar; 9 with the place; 8 alone
 abbrev pub answer_to : Verdict → List Price → Line
-answer_to Accepted fields = Prices (bar_of (value_at fields 0) (value_at fields 1) (value_at fields 2) (value_at fields 3))
-answer_to (Denied r) fields = cond (eqb (refusal_number r) 9) (BadPrice (leftmost_bad fields)) BadShape
+answer_to Accepted fields = Ok (bar_of (value_at fields 0) (value_at fields 1) (value_at fields 2) (value_at fields 3))
+answer_to (Denied r) fields = cond (eqb (refusal_number r) 9) (Err (BadPrice (leftmost_bad fields))) (Err BadShape)
 
 -- of a line of so many bytes with these fields, and of the line itself
 unfoldable pub said_of : ℕ → List Price → Line
@@ -71,14 +73,14 @@ line_of s = said_of (length s) (prices_in s)
 -- ---- this paper's number and values for each answer: none, 8 alone, 9 with the place
 
 abbrev pub verdict_of : Line → Verdict
-verdict_of (Prices bar) = Accepted
-verdict_of BadShape = Denied refusal.BadShape
-verdict_of (BadPrice place) = Denied refusal.BadPrice
+verdict_of (Ok bar) = Accepted
+verdict_of (Err BadShape) = Denied refusal.BadShape
+verdict_of (Err (BadPrice place)) = Denied refusal.BadPrice
 
 abbrev pub places_in : Line → List ℕ
-places_in (Prices bar) = []
-places_in BadShape = []
-places_in (BadPrice place) = place ∷ []
+places_in (Ok bar) = []
+places_in (Err BadShape) = []
+places_in (Err (BadPrice place)) = place ∷ []
 
 -- ---- the code's helper: what fields say in a line that is short enough
 unfoldable pub fields_line : List (List ℕ) → Line

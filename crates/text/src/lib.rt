@@ -9,6 +9,6 @@ pub use input_lines::lines;
 pub use input_lines::lines::Partial;
 pub use label_texts::label_text;
 pub use label_texts::label_text::{Text, code_of_bytes, code_of_text, text_of};
-pub use line_text::{Line, read_line, read_partial};
+pub use line_text::{LineError, read_line, read_partial};
 pub use price_texts::price_text;
-pub use price_texts::price_text::{Price, read_price};
+pub use price_texts::price_text::read_price;
