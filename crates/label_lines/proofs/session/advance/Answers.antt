@@ -29,7 +29,7 @@ returns-then-k-chunk c =
     let line = c.extend-line.ensures in
     let says : content c.extend-line.result ≡ kept_line (content args.st.now.line ++ take k chunk) = rw line (content-partial _) in
     let did = rw says at stepped in
-    record { used = (omega arith, omega (arith, inside), taken); session = rw (used.0, c.begin.ensures, did.0, did.1); printed = (did.2, rw used.1 did.3) }
+    record { used = (omega arith, omega (arith, inside), taken); session = rw (used.0, c.begin-st.ensures, did.0, did.1); printed = (did.2, rw used.1 did.3) }
 
 pub returns-else-k-chunk : goal.returns-else-k-chunk
 returns-else-k-chunk c =

@@ -1,7 +1,6 @@
 -- A refused feed leaves the box, and the line that is printed is its; an accepted one leaves the box after it. Assumes nothing.
 use mathlib.Core.Path.{◌≡◌, refl, sym, ◌∙◌}
 use native.Mathlib.Omega.{arith}
-use Rattle.std.specs.Prelude.{Ok, Err}
 use Rattle.measures.specs.Bar.{prices_of, put_bar}
 use Rattle.output_lines.specs.Output.{line_room}
 use Rattle.output_lines.proofs.OutputLaws.{written}
