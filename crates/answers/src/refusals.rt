@@ -1,6 +1,6 @@
 // Why a call is refused.
 ghost use Rattle.std.specs.Prelude.{◌≡◌};
-ghost use Rattle.answers.specs.Refusal.{refusal_number, leaves};
+ghost use Rattle.answers.specs.Refusal.{refusal_number, verdict_number};
 
 // Why a call is refused, by number. Most calls try theirs in this order; a layer's 12 comes next after 3.
 #[derive(Clone, Copy, Debug, PartialEq, Eq)]
@@ -26,12 +26,12 @@ pub fn refusal_number(r: Refusal) -> u8
     r as u8
 }
 
-// How many of the lent prices are taken in: all, or none if the feed is refused.
-pub fn taken(v: Result<(), Refusal>, prices: usize) -> usize
-    ensures { result ≡ leaves v 0 prices }
+// The number of the refusal, 0 if there is none.
+pub fn verdict_number(v: Result<(), Refusal>) -> u8
+    ensures { result ≡ verdict_number v }
 {
     match v {
-        Ok(()) => prices,
-        Err(_) => 0,
+        Ok(()) => 0,
+        Err(why) => refusal_number(why),
     }
 }

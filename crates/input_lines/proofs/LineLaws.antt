@@ -1,17 +1,20 @@
 -- Pieces and lines, one byte or one piece at a time, and what is kept of a line that has begun. Assumes nothing.
-use Prim.Native.Nat.{ℕ, zero, suc, ◌+◌, ◌-◌, ◌≤◌, ◌<◌}
+use Prim.Native.Nat.{ℕ, zero, suc, ◌+◌, ◌-◌, ◌≤◌, ◌<◌, min}
 use mathlib.Core.Bool.{Bool, true, false, cond, not}
 use mathlib.Core.List.{List, [], ◌∷◌, ◌++◌, append_assoc, append-nil}
 use mathlib.Core.Path.{◌≡◌, refl, ap, ◌∙◌}
 use native.Mathlib.Numerals.{add-one}
 use native.Mathlib.Omega.{arith}
 use lib.Dec.{eqb}
-use lib.ListN.{length, take, drop, replicate}
-use lib.Seq.{take-append_seam}
+use borrow.Rule.Slice.PartMut.{put_mid}
+use lib.ListN.{length, take, drop, replicate, length-take, length-append}
+use lib.Seq.{take-append_seam, take_at}
+use Rattle.std.proofs.lemmas.List.{drop_at, drop-replicate}
 use Rattle.rule_types.specs.Number.{longest_line}
 use Rattle.input_lines.specs.declared.lines.Partial.{Partial}
 use Rattle.input_lines.specs.Lines.{line_feed, pieces_from, pieces_of, ended_lines, lines_from, lines_of, run_of, piece_end, kept_line, content, partial_of}
-use Rattle.input_lines.proofs.PartLaws.{to_end}
+use Rattle.measures.proofs.RunLaws.{take-least}
+use Rattle.input_lines.proofs.PartLaws.{to_end, take_beyond}
 
 -- ---- pieces
 
@@ -116,3 +119,21 @@ partial-is l bytes n e is = rw (is, e)
 pub partial-fields : (p : Partial) (l : List ℕ) → p ≡ partial_of l → (p.bytes ≡ l ++ replicate (suc longest_line - length l) 0) × (p.len ≡ length l)
 unfolding partial_of
 partial-fields p l e = (ap (λ (q : Partial). q.bytes) e, ap (λ (q : Partial). q.len) e)
+
+-- the bytes of a line that count, so many of s as there is room for, and zeros
+pub filled : (line : Partial) (s front added : List ℕ) (b a : ℕ) → length line.bytes ≡ suc longest_line → b ≡ min line.len (suc longest_line)
+    → a ≡ min (length s) (suc longest_line - b) → front ≡ take b line.bytes → added ≡ take a s
+    → record { bytes = put_mid b (b + a - b) (front ++ drop b (replicate (suc longest_line) 0)) added; len = b + a } ≡ partial_of (kept_line (content line ++ s))
+filled line s front added b a all begun more is-front is-added =
+    let room = suc longest_line - b in
+    let is-content : front ≡ content line = is-front ∙ rw begun (take-least line.len (suc longest_line) line.bytes all) in
+    let front-len : length front ≡ b = rw (is-front, length-take) (omega arith) in
+    let added-len : length added ≡ a = rw (is-added, length-take) (omega arith) in
+    let part : a ≡ min room (length s) = omega arith in
+    let kept : take (suc longest_line) (content line ++ s) ≡ front ++ added =
+    rw (← is-content, take_beyond (suc longest_line) front s (omega arith), front-len, is-added, part, take-least room (length s) s refl) in
+    let k : b + a - b ≡ a = omega arith in
+    let left : room - a ≡ suc longest_line - (b + a) = omega arith in
+    let bytes : put_mid b (b + a - b) (front ++ drop b (replicate (suc longest_line) 0)) added ≡ (front ++ added) ++ replicate (suc longest_line - (b + a)) 0 =
+    rw (k, take_at front _ b front-len, drop_at front _ b front-len, drop-replicate, drop-replicate, left) (simp append_assoc) in
+    rw kept (partial-is (front ++ added) _ (b + a) (simp length-append (omega arith)) bytes)

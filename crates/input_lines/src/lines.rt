@@ -2,13 +2,11 @@
 ghost use Rattle.std.specs.Prelude.{◌≡◌, [], ◌++◌, ◌≤◌, eqb, length};
 ghost use Rattle.input_lines.specs.Lines.{piece_end, kept_line, content, partial_of};
 
-use measures::least;
-
 // What ends a line.
-pub const LINE_FEED: u8 = 10;
+pub const LINE_FEED: u8 = b'\n';
 
 // What stands between two fields of a line.
-pub const COMMA: u8 = 44;
+pub const COMMA: u8 = b',';
 
 // The most bytes of a line.
 pub const LONGEST_LINE: usize = 80;
@@ -20,17 +18,12 @@ pub const KEPT_BYTES: usize = LONGEST_LINE + 1;
 pub fn piece_end(separator: u8, s: &[u8]) -> usize
     ensures { (result ≡ piece_end separator s.now) × (result ≤ length s.now) }
 {
-    let mut i = 0usize;
-    while i < s.len() {
-        if s[i] == separator {
-            return i;
-        }
-        i += 1;
-    }
-    i
+    s.iter().position(|b| *b == separator).unwrap_or(s.len())
 }
 
-// The bytes of a line that has begun, of which the first len count.
+// The bytes of a line that has begun, of which the first len count: memory of a fixed size that a session holds by value. Whoever fills one
+// may leave anything behind them, and `content` and `partial_of` say what each call makes of it. A vector of fixed capacity is no plainer: it
+// can't be copied, and no equation can say that it is one value.
 #[derive(Clone, Copy)]
 pub struct Partial {
     pub bytes: [u8; KEPT_BYTES],
@@ -47,31 +40,18 @@ pub fn begin() -> Partial
     }
 }
 
-// The bytes of s behind those of a line that has zeros there.
-fn append(line: Partial, s: &[u8]) -> Partial
-    requires { line ≡ partial_of (content line) }
-    ensures { result ≡ partial_of (kept_line (content line ++ s.now)) }
-{
-    let at = line.len;
-    let n = least(s.len(), KEPT_BYTES - at);
-    let mut bytes = line.bytes;
-    let mut i = 0usize;
-    while i < n {
-        bytes[at + i] = s[i];
-        i += 1;
-    }
-    Partial { bytes, len: at + n }
-}
-
 // The line with the bytes of s behind it. Of the line only the bytes that count are copied, so that the answer is one value, whatever a
 // caller left behind them.
 pub fn extend(line: Partial, s: &[u8]) -> Partial
     ensures { result ≡ partial_of (kept_line (content line ++ s.now)) }
 {
-    let bytes = line.bytes;
-    let begun = least(line.len, KEPT_BYTES);
-    let copied = append(begin(), &bytes[..begun]);
-    append(copied, s)
+    let begun = line.len.min(KEPT_BYTES);
+    let added = s.len().min(KEPT_BYTES - begun);
+    let len = begun + added;
+    let mut bytes = [0; KEPT_BYTES];
+    bytes[..begun].copy_from_slice(&line.bytes[..begun]);
+    bytes[begun..len].copy_from_slice(&s[..added]);
+    Partial { bytes, len }
 }
 
 // Whether the line has no bytes.

@@ -1,5 +1,5 @@
 -- What an input prints is what its lines print over the whole history up to each bar, though the box keeps 64. Assumes nothing.
-use Rattle.std.specs.Prelude.{Err, Ok}
+use Rattle.std.specs.Prelude.{Err, Ok, Some}
 use Prim.Native.Nat.{ℕ, ◌+◌, ◌≤◌}
 use mathlib.Core.Bool.{Bool, true, false, cond}
 use mathlib.Core.List.{List, [], ◌∷◌, ◌++◌, map, append-nil}
@@ -21,8 +21,8 @@ use Rattle.bar_box.proofs.SheetLaws.{length-row, rows-one, rows-newest}
 use Rattle.bar_box.proofs.FeedSteps.{accepts, count-after, kept-after, verdict-step, box-step}
 use Rattle.bar_box.proofs.FeedLists.{at-start}
 use Rattle.bar_box.proofs.Demand3.{standard-valid, fresh-none}
-use Rattle.text.specs.declared.line_text.Line.{Line, TheVariants.Prices, TheVariants.BadShape, TheVariants.BadPrice}
-use Rattle.text.specs.LineText.{line_of}
+use Rattle.text.specs.declared.line_text.LineError.TheVariants.{BadShape, BadPrice}
+use Rattle.text.specs.LineText.{Line, line_of}
 use Rattle.input_lines.specs.Lines.{lines_of}
 use Rattle.output_lines.specs.declared.output.Stop.TheVariants.{By, Price}
 use Rattle.output_lines.specs.Output.{refusal_line}
@@ -81,7 +81,7 @@ module _ (h : List Bar) (bar : Bar) where
   unfolding feed_verdict feed_tried first_true prices_of
   past most = simp (standard-valid, lt-ltb most_bars (length h + 1) (omega arith))
 
-  fed-past : length h ≡ most_bars → fed_step (box_of h) bar ≡ record { printed = refusal_line (length h + 1) (By refusal.TooManyBars); after = box_of h; stops = true }
+  fed-past : length h ≡ most_bars → fed_step (box_of h) bar ≡ record { printed = refusal_line (length h + 1) (Some (By refusal.TooManyBars)); after = box_of h; stops = true }
   fed-past most = fed-refused (box_of h) bar _ refl refusal.TooManyBars (verdict-step fresh start h feed ∙ past most) ∙ rw (count-after fresh start h)
 
 -- ---- lines after it
@@ -90,21 +90,21 @@ module _ (h : List Bar) (bar : Bar) where
 module _ (lines : List (List ℕ)) (on : (h : List Bar) → length h ≤ most_bars → printed_of (box_of h) lines ≡ history_prints h (map line_of lines)) where
   bar-line : (h : List Bar) (bar : Bar) (t : Bool) → ltb (length h) most_bars ≡ t → length h ≤ most_bars
       → (fed_step (box_of h) bar).printed ++ cond (fed_step (box_of h) bar).stops [] (printed_of (fed_step (box_of h) bar).after lines)
-      ≡ cond t (newest_lines (h ++ (bar ∷ [])) ++ history_prints (h ++ (bar ∷ [])) (map line_of lines)) (refusal_line (length h + 1) (By refusal.TooManyBars))
+      ≡ cond t (newest_lines (h ++ (bar ∷ [])) ++ history_prints (h ++ (bar ∷ [])) (map line_of lines)) (refusal_line (length h + 1) (Some (By refusal.TooManyBars)))
   bar-line h bar true room few =
       let below = ltb-true (length h) most_bars room in
       let still : length (h ++ (bar ∷ [])) ≤ most_bars = rw (length-append h (bar ∷ [])) (omega (arith, below)) in
       rw (fed-more h bar (omega (arith, below)), on (h ++ (bar ∷ [])) still)
   bar-line h bar false full few =
       let most : length h ≡ most_bars = omega (arith, few, ltb-false (length h) most_bars full) in
-      rw (fed-past h bar most) (append-nil (refusal_line (length h + 1) (By refusal.TooManyBars)))
+      rw (fed-past h bar most) (append-nil (refusal_line (length h + 1) (Some (By refusal.TooManyBars))))
 
   one_line : (h : List Bar) (l : Line) → length h ≤ most_bars
       → (read_step (box_of h) l).printed ++ cond (read_step (box_of h) l).stops [] (printed_of (read_step (box_of h) l).after lines) ≡ history_prints h (l ∷ map line_of lines)
   unfolding lines_print
-  one_line h (Prices bar) few = bar-line h bar (ltb (length h) most_bars) refl few
-  one_line h BadShape few = rw (count-after fresh start h) (append-nil (refusal_line (length h + 1) (By refusal.BadShape)))
-  one_line h (BadPrice place) few = rw (count-after fresh start h) (append-nil (refusal_line (length h + 1) (Price place)))
+  one_line h (Ok bar) few = bar-line h bar (ltb (length h) most_bars) refl few
+  one_line h (Err BadShape) few = rw (count-after fresh start h) (append-nil (refusal_line (length h + 1) (Some (By refusal.BadShape))))
+  one_line h (Err (BadPrice place)) few = rw (count-after fresh start h) (append-nil (refusal_line (length h + 1) (Some (Price place))))
 
 after-history : (h : List Bar) (lines : List (List ℕ)) → length h ≤ most_bars → printed_of (box_of h) lines ≡ history_prints h (map line_of lines)
 unfolding printed_of line_step lines_print

@@ -1,4 +1,5 @@
 -- Every input prints what it printed while refusal 8 was for bad prices too, but for the line of a bad price. Assumes nothing.
+use Rattle.std.specs.Prelude.{Ok, Err}
 use Prim.Native.Nat.{ℕ, ◌+◌}
 use mathlib.Core.Bool.{Bool, true, false, cond}
 use mathlib.Core.List.{List, [], ◌∷◌, ◌++◌, map, append_assoc}
@@ -8,8 +9,8 @@ use lib.Dec.{ltb}
 use lib.ListN.{length}
 use Rattle.measures.specs.Bar.{Bar}
 use Rattle.recognisers.specs.Number.{most_bars}
-use Rattle.text.specs.declared.line_text.Line.{Line, TheVariants.Prices, TheVariants.BadShape, TheVariants.BadPrice}
-use Rattle.text.specs.LineText.{line_of}
+use Rattle.text.specs.declared.line_text.LineError.TheVariants.{BadShape, BadPrice}
+use Rattle.text.specs.LineText.{Line, line_of}
 use Rattle.input_lines.specs.Lines.{lines_of}
 use Rattle.label_lines.specs.History.{newest_lines, lines_print, history_prints}
 use Rattle.label_lines.specs.SameRows.{by8, Same, SameRows}
@@ -23,9 +24,9 @@ behind xs now then (inr (rows, ordinal, place, a, b)) = inr (xs ++ rows, ordinal
 same-prints : (h : List Bar) (lines : List Line) → Same (history_prints h lines) (history_prints h (map by8 lines))
 unfolding lines_print
 same-prints h [] = inl refl
-same-prints h (BadShape ∷ lines) = inl refl
+same-prints h ((Err BadShape) ∷ lines) = inl refl
 same-prints h (BadPrice place ∷ lines) = inr ([], length h + 1, place, refl, refl)
-same-prints h (Prices bar ∷ lines) = go (ltb (length h) most_bars) _ (same-prints (h ++ (bar ∷ [])) lines)
+same-prints h (Ok bar ∷ lines) = go (ltb (length h) most_bars) _ (same-prints (h ++ (bar ∷ [])) lines)
   where
     go : (t : Bool) (end : List ℕ) → let more = h ++ (bar ∷ []) in
         Same (history_prints more lines) (history_prints more (map by8 lines))

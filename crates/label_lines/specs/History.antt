@@ -1,11 +1,12 @@
 -- "The labels program": what it prints for an input, said of the whole history up to each bar, without the box.
-use Rattle.std.specs.Prelude.{ℕ, ◌+◌, cond, List, [], ◌∷◌, ◌++◌, ltb, length}
+use Rattle.text.specs.LineText.{Line}
+use Rattle.std.specs.Prelude.{ℕ, ◌+◌, cond, List, [], ◌∷◌, ◌++◌, ltb, length, Some, Ok, Err}
 use Rattle.measures.specs.Bar.{Bar}
 use Rattle.answers.specs.declared.refusals.Refusal.TheVariants as refusal
 use Rattle.recognisers.specs.Number.{most_bars}
 use Rattle.recognisers.specs.Threshold.{standard_set}
 use Rattle.bar_box.specs.Sheet.{row_of}
-use Rattle.text.specs.declared.line_text.Line.{Line, TheVariants.Prices, TheVariants.BadShape, TheVariants.BadPrice}
+use Rattle.text.specs.declared.line_text.LineError.TheVariants.{BadShape, BadPrice}
 use Rattle.output_lines.specs.declared.output.Stop.TheVariants.{By, Price}
 use Rattle.output_lines.specs.Output.{row_lines, refusal_line}
 
@@ -17,12 +18,12 @@ newest_lines history = row_lines (length history) 0 (row_of standard_set (length
 -- is one more, its refusal, after which nothing is printed
 unfoldable pub lines_print : (List Bar → List ℕ) → (List Bar → List ℕ) → List Bar → List Line → List ℕ
 lines_print each end history [] = end history
-lines_print each end history (Prices bar ∷ lines) =
+lines_print each end history (Ok bar ∷ lines) =
     cond (ltb (length history) most_bars)
     (each (history ++ (bar ∷ [])) ++ lines_print each end (history ++ (bar ∷ [])) lines)
-    (refusal_line (length history + 1) (By refusal.TooManyBars))
-lines_print each end history (BadShape ∷ lines) = refusal_line (length history + 1) (By refusal.BadShape)
-lines_print each end history (BadPrice place ∷ lines) = refusal_line (length history + 1) (Price place)
+    (refusal_line (length history + 1) (Some (By refusal.TooManyBars)))
+lines_print each end history ((Err BadShape) ∷ lines) = refusal_line (length history + 1) (Some (By refusal.BadShape))
+lines_print each end history (BadPrice place ∷ lines) = refusal_line (length history + 1) (Some (Price place))
 
 -- this program prints the rows of each bar, over the history up to it
 abbrev pub history_prints : List Bar → List Line → List ℕ

@@ -1,5 +1,5 @@
 -- "The labels program": what it prints for an input.
-use Rattle.std.specs.Prelude.{Err, Ok}
+use Rattle.std.specs.Prelude.{Err, Ok, Some}
 use Rattle.answers.specs.Refusal.{Verdict}
 use Rattle.std.specs.Prelude.{ℕ, ◌+◌, Bool, true, false, cond, List, [], ◌∷◌, ◌++◌, replicate}
 use Rattle.measures.specs.Bar.{Bar, prices_of}
@@ -8,8 +8,8 @@ use Rattle.recognisers.specs.Number.{row_bytes}
 use Rattle.recognisers.specs.Threshold.{standard_set}
 use Rattle.box_record.specs.declared.boxes.BarBox.{BarBox}
 use Rattle.bar_box.specs.Box.{fresh_box, fed_of, sheet_of}
-use Rattle.text.specs.declared.line_text.Line.{Line, TheVariants.Prices, TheVariants.BadShape, TheVariants.BadPrice}
-use Rattle.text.specs.LineText.{line_of}
+use Rattle.text.specs.declared.line_text.LineError.TheVariants.{BadShape, BadPrice}
+use Rattle.text.specs.LineText.{Line, line_of}
 use Rattle.input_lines.specs.Lines.{lines_of}
 use Rattle.output_lines.specs.declared.output.Stop.{Stop, TheVariants.By, TheVariants.Price}
 use Rattle.output_lines.specs.Output.{row_lines, refusal_line}
@@ -24,7 +24,7 @@ pub record Step : Type 0 where
 
 -- a refused line leaves the box; its ordinal is one more than the bars before
 abbrev pub refused_step : BarBox → Stop → Step
-refused_step b stop = record { printed = refusal_line (b.count + 1) stop; after = b; stops = true }
+refused_step b stop = record { printed = refusal_line (b.count + 1) (Some stop); after = b; stops = true }
 
 -- an accepted bar prints its rows, a refused one the refusal, and stops
 abbrev pub judged_of : Verdict → BarBox → List ℕ → BarBox → Step
@@ -38,9 +38,9 @@ fed_step b bar =
 
 -- a line is read as text first, then fed as one bar
 abbrev pub read_step : BarBox → Line → Step
-read_step b (Prices bar) = fed_step b bar
-read_step b BadShape = refused_step b (By refusal.BadShape)
-read_step b (BadPrice place) = refused_step b (Price place)
+read_step b (Ok bar) = fed_step b bar
+read_step b (Err BadShape) = refused_step b (By refusal.BadShape)
+read_step b (Err (BadPrice place)) = refused_step b (Price place)
 
 unfoldable pub line_step : BarBox → List ℕ → Step
 line_step b line = read_step b (line_of line)

@@ -13,9 +13,9 @@ use output_lines::Stop;
 pub use output_lines::output::ROOM;
 use output_lines::output::{print_refusal, print_rows};
 use recognisers::counts::ROW_BYTES;
-use recognisers::{Refusal, Thresholds, Verdict};
+use recognisers::{Refusal, Thresholds};
 use text::lines::LINE_FEED;
-use text::{Line, Partial, lines, read_partial};
+use text::{LineError, Partial, lines, read_partial};
 
 // The line that has begun, the box, and whether a line was refused.
 #[derive(Clone, Copy)]
@@ -25,12 +25,18 @@ pub struct Session {
     pub stopped: bool,
 }
 
-// What a line leaves, and the place behind what it printed.
+// Whether the session stops at a line, and the place behind what the line printed.
 #[derive(Clone, Copy)]
 struct Stepped {
-    held: BarBox,
     stops: bool,
     at: usize,
+}
+
+// How many bytes were used, and the place behind what they printed.
+#[derive(Clone, Copy)]
+struct Advanced {
+    used: usize,
+    written: usize,
 }
 
 // The session after the first used bytes, which printed the first written bytes of the buffer.
@@ -56,94 +62,66 @@ pub fn begin() -> Session
     }
 }
 
-fn refuse(held: BarBox, stop: Stop, out: &mut [u8], at: usize) -> Stepped
+// The line of a refusal, at which the session stops.
+fn refuse(held: &BarBox, stop: Stop, out: &mut [u8], at: usize) -> Stepped
     requires { at + line_room ≤ length out.old }
-    ensures { Takes (refused_step held stop) result out.old at out.new }
+    ensures { Takes (refused_step held.now stop) held.now result out.old at out.new }
 {
-    let ordinal = held.count as u64 + 1;
-    let end = print_refusal(ordinal, stop, out, at);
-    Stepped {
-        held,
-        stops: true,
-        at: end,
-    }
+    let ordinal = u64::from(held.count) + 1;
+    let at = print_refusal(ordinal, Some(stop), out, at);
+    Stepped { stops: true, at }
 }
 
 // Feeds one bar and prints its rows.
-fn feed_bar(held: BarBox, bar: Bar, out: &mut [u8], at: usize) -> Stepped
+fn feed_bar(held: &mut BarBox, bar: Bar, out: &mut [u8], at: usize) -> Stepped
     requires { at + line_room ≤ length out.old }
-    ensures { Takes (fed_step held bar) result out.old at out.new }
+    ensures { Takes (fed_step held.old bar) held.new result out.old at out.new }
 {
-    let ordinal = held.count as u64 + 1;
+    let ordinal = u64::from(held.count) + 1;
     let mut prices = [0.0; 4];
     put_bar(bar, &mut prices, 0);
     let mut sheet = [0u8; ROW_BYTES];
-    let fed = bar_box::feed(held, &prices, &mut sheet);
-    let verdict = fed.verdict;
-    // a refused feed leaves the box as it was, so that no second one is kept for it
-    let after = fed.after;
-    match verdict {
-        Err(why) => {
-            let end = print_refusal(ordinal, Stop::By(why), out, at);
-            Stepped {
-                held: after,
-                stops: true,
-                at: end,
-            }
-        }
+    match bar_box::feed(held, &prices, &mut sheet) {
+        Err(why) => refuse(held, Stop::By(why), out, at),
         Ok(()) => {
-            let end = print_rows(ordinal, sheet, out, at);
-            Stepped {
-                held: after,
-                stops: false,
-                at: end,
-            }
+            let at = print_rows(ordinal, sheet, out, at);
+            Stepped { stops: false, at }
         }
     }
 }
 
 // The end of a line.
-fn step(held: BarBox, line: Partial, out: &mut [u8], at: usize) -> Stepped
+fn step(held: &mut BarBox, line: Partial, out: &mut [u8], at: usize) -> Stepped
     requires { at + line_room ≤ length out.old }
-    ensures { Takes (line_step held (content line)) result out.old at out.new }
+    ensures { Takes (line_step held.old (content line)) held.new result out.old at out.new }
 {
     match read_partial(line) {
-        Line::Prices(bar) => feed_bar(held, bar, out, at),
-        Line::BadShape => refuse(held, Stop::By(Refusal::BadShape), out, at),
-        Line::BadPrice(place) => refuse(held, Stop::Price(place), out, at),
+        Ok(bar) => feed_bar(held, bar, out, at),
+        Err(LineError::BadShape) => refuse(held, Stop::By(Refusal::BadShape), out, at),
+        Err(LineError::BadPrice(place)) => refuse(held, Stop::Price(place), out, at),
     }
 }
 
-// Bytes up to the end of a line, or all of them if none ends there.
-fn advance(st: Session, chunk: &[u8], out: &mut [u8], at: usize) -> Absorbed
-    requires { (st.stopped ≡ false) × (1 ≤ length chunk.now) × (at + line_room ≤ length out.old) }
-    ensures used { (1 ≤ result.used) × (result.used ≤ length chunk.now) × (used_of (length out.old - at) (state_of st) (take result.used chunk.now) ≡ result.used) }
-    ensures session { result.session ≡ session_of (state_after (state_of st) (take result.used chunk.now)) }
-    ensures printed { (result.written ≤ at + line_room) × Written out.old at (prints (state_of st) (take result.used chunk.now)) out.new result.written }
+// Bytes up to the end of a line, or all of them if none ends there: how many they are, and the place behind what they printed.
+fn advance(st: &mut Session, chunk: &[u8], out: &mut [u8], at: usize) -> Advanced
+    requires { (st.old.stopped ≡ false) × (1 ≤ length chunk.now) × (at + line_room ≤ length out.old) }
+    ensures used { (1 ≤ result.used) × (result.used ≤ length chunk.now) × (used_of (length out.old - at) (state_of st.old) (take result.used chunk.now) ≡ result.used) }
+    ensures session { st.new ≡ session_of (state_after (state_of st.old) (take result.used chunk.now)) }
+    ensures printed { (result.written ≤ at + line_room) × Written out.old at (prints (state_of st.old) (take result.used chunk.now)) out.new result.written }
 {
     let k = lines::piece_end(LINE_FEED, chunk);
-    let begun = st.line;
-    let held = st.held;
-    let line = lines::extend(begun, &chunk[..k]);
+    let line = lines::extend(st.line, &chunk[..k]);
     if k < chunk.len() {
-        let stepped = step(held, line, out, at);
-        let after = stepped.held;
-        Absorbed {
-            session: Session {
-                line: lines::begin(),
-                held: after,
-                stopped: stepped.stops,
-            },
+        let stepped = step(&mut st.held, line, out, at);
+        st.line = lines::begin();
+        st.stopped = stepped.stops;
+        Advanced {
             used: k + 1,
             written: stepped.at,
         }
     } else {
-        Absorbed {
-            session: Session {
-                line,
-                held,
-                stopped: st.stopped,
-            },
+        st.line = line;
+        Advanced {
             used: k,
             written: at,
         }
@@ -160,19 +138,12 @@ pub fn absorb(st: Session, chunk: &[u8], out: &mut [u8]) -> Absorbed
     let room = least(ROOM, out.len());
     let limit = out.len() - room;
     // the line anew, so that the session is one value also where no byte is used
-    let begun = st.line;
-    let line = lines::extend(begun, &chunk[..0]);
-    let held = st.held;
-    let mut session = Session {
-        line,
-        held,
-        stopped: st.stopped,
-    };
+    let line = lines::extend(st.line, &chunk[..0]);
+    let mut session = Session { line, ..st };
     let mut used = 0usize;
     let mut written = 0usize;
     while (used < chunk.len()) & !session.stopped & (room == ROOM) & (written <= limit) {
-        let next = advance(session, &chunk[used..], out, written);
-        session = next.session;
+        let next = advance(&mut session, &chunk[used..], out, written);
         used += next.used;
         written = next.written;
     }
@@ -188,12 +159,10 @@ pub fn end(st: Session, out: &mut [u8]) -> usize
     ensures printed { Written out.old 0 (line_in line_room (length out.old) (end_prints (state_of st))) out.new result }
     ensures within { result ≤ length out.old }
 {
-    let line = st.line;
-    let held = st.held;
-    let none = lines::is_empty(line);
+    let mut held = st.held;
+    let none = lines::is_empty(st.line);
     if (ROOM <= out.len()) & !st.stopped & !none {
-        let stepped = step(held, line, out, 0);
-        stepped.at
+        step(&mut held, st.line, out, 0).at
     } else {
         0
     }

@@ -7,18 +7,21 @@ use native.Mathlib.Nat.{add-zero, le_of_suc-le-suc, not-suc-le-zero}
 use native.Mathlib.Decide.{dec_le}
 use native.Mathlib.Numerals.{add-one}
 use native.Mathlib.Omega.{arith}
-use borrow.Author.Tests.{leb-true, eqb-true, eq-eqb}
+use borrow.Author.Tests.{leb-true, eqb-true}
 use lib.Dec.{eqb, leb}
 use lib.ListN.{length, get_or, take, drop, replicate, length-append, length-replicate, get_or-eq_default}
 use lib.Seq.{drop-cons, take_at}
+use Rattle.std.specs.Cmp.Lexicographic.{pointwise}
 use Rattle.label_texts.specs.LabelText.{texts_of_labels, bytes_of, most_bytes, text_of, same, place_in}
 use Rattle.rule_types.proofs.ListLaws.{both}
 
 -- ---- the same bytes
-same_refl : (a : List ℕ) → same a a ≡ true
+pub pointwise-same : (a b : List ℕ) → pointwise eqb a b ≡ same a b
 unfolding same
-same_refl [] = refl
-same_refl (x ∷ xs) = rw (eq-eqb x x refl, same_refl xs)
+pointwise-same [] [] = refl
+pointwise-same [] (y ∷ ys) = refl
+pointwise-same (x ∷ xs) [] = refl
+pointwise-same (x ∷ xs) (y ∷ ys) = rw (pointwise-same xs ys)
 
 pub same-eq : (a b : List ℕ) → same a b ≡ true → a ≡ b
 unfolding same
@@ -30,14 +33,6 @@ same-eq (x ∷ xs) (y ∷ ys) e =
     let heads = eqb-true x y h.0 in
     let tails = same-eq xs ys h.1 in
     cc
-
-pub same-is : (r : Bool) (a b : List ℕ) → (r ≡ true → a ≡ b) → (a ≡ b → r ≡ true) → r ≡ same a b
-same-is true a b f g = let e = f refl in rw (e, same_refl b)
-same-is false a b f g = other (same a b) (λ t. g (same-eq a b t))
-  where
-    other : (t : Bool) → (t ≡ true → false ≡ true) → false ≡ t
-    other true h = h refl
-    other false h = refl
 
 -- ---- the place in a list of labels, one label at a time
 module _ (ls : List (List ℕ)) (s : List ℕ) (i : ℕ) where

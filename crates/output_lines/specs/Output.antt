@@ -1,5 +1,5 @@
 -- Lines of output: the rows of a bar, refusals and counts, and what a buffer holds once one was written.
-use Rattle.std.specs.Prelude.{ℕ, zero, suc, ◌+◌, ◌-◌, ◌*◌, ◌/◌, Bool, true, false, cond, List, [], ◌∷◌, ◌++◌, ◌≡◌, ltb, leb, eqb, length}
+use Rattle.std.specs.Prelude.{ℕ, zero, suc, ◌+◌, ◌-◌, ◌*◌, ◌/◌, Bool, true, false, cond, List, [], ◌∷◌, ◌++◌, ◌≡◌, ltb, leb, eqb, length, Option, Some, None}
 use Rattle.io.specs.Digits.{last_digits}
 use Rattle.measures.specs.Bar.{overlay}
 use Rattle.answers.specs.declared.refusals.Refusal.{Refusal}
@@ -8,7 +8,7 @@ use Rattle.recognisers.specs.Number.{recognisers}
 use Rattle.recognisers.specs.Refusal.{refusal_number}
 use Rattle.label_texts.specs.LabelText.{bytes_of}
 use Rattle.input_lines.specs.Lines.{line_feed, comma}
-use Rattle.output_lines.specs.declared.output.Stop.{Stop, TheVariants.Going, TheVariants.By, TheVariants.Price}
+use Rattle.output_lines.specs.declared.output.Stop.{Stop, TheVariants.By, TheVariants.Price}
 
 -- ---- lines
 
@@ -62,17 +62,16 @@ unfoldable pub refusal_part : ℕ → Refusal → ℕ → List ℕ
 refusal_part ordinal r end = field refused_word comma ++ field (numeral ordinal) comma ++ field (numeral (refusal_number r)) end
 
 -- whether no line was refused
-abbrev pub goes_on : Stop → Bool
-goes_on Going = true
-goes_on (By r) = false
-goes_on (Price place) = false
+abbrev pub goes_on : Option Stop → Bool
+goes_on None = true
+goes_on (Some stop) = false
 
 -- a refusal prints a line such as refused,3,8: the line's ordinal, the refusal; for a bad price it gains at its end the field's place:
 -- refused,3,9,2
-unfoldable pub refusal_line : ℕ → Stop → List ℕ
-refusal_line ordinal Going = []
-refusal_line ordinal (By r) = refusal_part ordinal r line_feed
-refusal_line ordinal (Price place) = refusal_part ordinal refusal.BadPrice comma ++ field (numeral place) line_feed
+unfoldable pub refusal_line : ℕ → Option Stop → List ℕ
+refusal_line ordinal None = []
+refusal_line ordinal (Some (By r)) = refusal_part ordinal r line_feed
+refusal_line ordinal (Some (Price place)) = refusal_part ordinal refusal.BadPrice comma ++ field (numeral place) line_feed
 
 -- the recogniser, a label, and how many bars got it
 unfoldable pub count_line : ℕ → ℕ → ℕ → List ℕ

@@ -1,11 +1,10 @@
 // Lines of output, written into a buffer from a place on. Each function answers the place behind what it wrote.
-ghost use Rattle.std.specs.Prelude.{◌≡◌, ◌+◌, ◌≤◌, length};
+ghost use Rattle.std.specs.Prelude.{◌≡◌, ◌+◌, ◌≤◌, length, Some};
 ghost use Rattle.label_texts.specs.LabelText.{bytes_of};
 ghost use Rattle.output_lines.specs.Output.{numeral, field, pair_line, row_lines, longest_row, longest_count, longest_refusal, line_room, goes_on, refusal_part, refusal_line, count_line, Written, Printed};
 
 use input_lines::lines::{COMMA, LINE_FEED};
 use label_texts::label_text::text_of;
-use measures::least;
 use recognisers::Refusal;
 use recognisers::counts::{RECOGNISERS, ROW_BYTES};
 use recognisers::refusals::refusal_number;
@@ -21,22 +20,18 @@ const LONGEST_REFUSAL: usize = 71;
 // The room for what a line of input may print: a row for each recogniser.
 pub const ROOM: usize = RECOGNISERS * LONGEST_ROW;
 
-// Whether a line was refused: by a refusal, or by 9 with the field's place.
-#[derive(Clone, Copy)]
+// What a line was refused by: a refusal, or 9 with the field's place.
+#[derive(Clone, Copy, Debug, PartialEq, Eq)]
 pub enum Stop {
-    Going,
     By(Refusal),
     Price(u8),
 }
 
-pub fn goes_on(stop: Stop) -> bool
+// Whether no line was refused.
+pub fn goes_on(stop: Option<Stop>) -> bool
     ensures { result ≡ goes_on stop }
 {
-    match stop {
-        Stop::Going => true,
-        Stop::By(_) => false,
-        Stop::Price(_) => false,
-    }
+    stop.is_none()
 }
 
 // ---- parts of lines
@@ -46,13 +41,10 @@ fn write_field(s: &[u8], end: u8, out: &mut [u8], at: usize) -> usize
     requires { at + length s.now + 1 ≤ length out.old }
     ensures { Written out.old at (field s.now end) out.new result }
 {
-    let mut i = 0usize;
-    while i < s.len() {
-        out[at + i] = s[i];
-        i += 1;
-    }
-    out[at + i] = end;
-    at + i + 1
+    let behind = at + s.len();
+    out[at..behind].copy_from_slice(s);
+    out[behind] = end;
+    behind + 1
 }
 
 fn write_number(n: u64, end: u8, out: &mut [u8], at: usize) -> usize
@@ -99,39 +91,12 @@ fn write_part(ordinal: u64, why: Refusal, end: u8, out: &mut [u8], at: usize) ->
     write_number(refusal_number(why) as u64, end, out, b)
 }
 
-// ---- lines, where there is room for the longest of their kind, and else nothing
-
-// The lines of a bar whose row the sheet has, where 1,332 bytes are left.
-pub fn print_rows(ordinal: u64, sheet: [u8; ROW_BYTES], out: &mut [u8], at: usize) -> usize
-    ensures printed { Printed line_room (row_lines ordinal 0 sheet) out.old at out.new result }
-    ensures within { result ≤ at + line_room }
+// The line of a refusal.
+fn write_stop(ordinal: u64, stop: Stop, out: &mut [u8], at: usize) -> usize
+    requires { at + longest_refusal ≤ length out.old }
+    ensures { (result ≤ at + longest_refusal) × Written out.old at (refusal_line ordinal (Some stop)) out.new result }
 {
-    let left = out.len() - least(at, out.len());
-    if left < ROOM {
-        return at;
-    }
-    let mut k = 0usize;
-    let mut place = at;
-    while k < RECOGNISERS {
-        let v1 = sheet[2 * k];
-        let v2 = sheet[2 * k + 1];
-        place = write_pair(ordinal, k as u64, v1, v2, out, place);
-        k += 1;
-    }
-    place
-}
-
-// The line of a refusal, if there is one, where 71 bytes are left.
-pub fn print_refusal(ordinal: u64, stop: Stop, out: &mut [u8], at: usize) -> usize
-    ensures printed { Printed longest_refusal (refusal_line ordinal stop) out.old at out.new result }
-    ensures within { result ≤ at + longest_refusal }
-{
-    let left = out.len() - least(at, out.len());
-    if left < LONGEST_REFUSAL {
-        return at;
-    }
     match stop {
-        Stop::Going => at,
         Stop::By(why) => write_part(ordinal, why, LINE_FEED, out, at),
         Stop::Price(place) => {
             let behind = write_part(ordinal, Refusal::BadPrice, COMMA, out, at);
@@ -140,11 +105,46 @@ pub fn print_refusal(ordinal: u64, stop: Stop, out: &mut [u8], at: usize) -> usi
     }
 }
 
+// ---- lines, where there is room for the longest of their kind, and else nothing
+
+// The lines of a bar whose row the sheet has, where 1,332 bytes are left.
+pub fn print_rows(ordinal: u64, sheet: [u8; ROW_BYTES], out: &mut [u8], at: usize) -> usize
+    ensures printed { Printed line_room (row_lines ordinal 0 sheet) out.old at out.new result }
+    ensures within { result ≤ at + line_room }
+{
+    let left = out.len().saturating_sub(at);
+    if left < ROOM {
+        return at;
+    }
+    let mut place = at;
+    for k in 0..RECOGNISERS {
+        let v1 = sheet[2 * k];
+        let v2 = sheet[2 * k + 1];
+        place = write_pair(ordinal, k as u64, v1, v2, out, place);
+    }
+    place
+}
+
+// The line of a refusal, if there is one, where 71 bytes are left.
+pub fn print_refusal(ordinal: u64, stop: Option<Stop>, out: &mut [u8], at: usize) -> usize
+    ensures printed { Printed longest_refusal (refusal_line ordinal stop) out.old at out.new result }
+    ensures within { result ≤ at + longest_refusal }
+{
+    let left = out.len().saturating_sub(at);
+    if left < LONGEST_REFUSAL {
+        return at;
+    }
+    match stop {
+        None => at,
+        Some(stop) => write_stop(ordinal, stop, out, at),
+    }
+}
+
 // The line of a count, where 58 bytes are left.
 pub fn print_count(k: u64, code: u8, count: u64, out: &mut [u8], at: usize) -> usize
     ensures { Printed longest_count (count_line k code count) out.old at out.new result }
 {
-    let left = out.len() - least(at, out.len());
+    let left = out.len().saturating_sub(at);
     if left < LONGEST_COUNT {
         return at;
     }

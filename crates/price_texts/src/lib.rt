@@ -4,4 +4,4 @@
 
 pub mod price_text;
 
-pub use price_text::{Price, read_price};
+pub use price_text::read_price;

@@ -1,5 +1,6 @@
 -- Bytes read as lines: a begun line of which the first bytes are kept, one run behind another, and the bytes up to the end of a line.
 -- Assumes nothing.
+use Rattle.std.specs.Prelude.{None, Ok, Err}
 use Prim.Native.Nat.{ℕ, ◌+◌, ◌≤◌, ◌<◌}
 use mathlib.Core.Bool.{Bool, true, false, cond, not}
 use mathlib.Core.List.{List, [], ◌∷◌, ◌++◌, append_assoc, append-nil}
@@ -10,15 +11,14 @@ use lib.Dec.{eqb}
 use lib.ListN.{length, take, drop}
 use lib.Seq.{take-add}
 use Rattle.measures.specs.Bar.{Bar}
-use Rattle.text.specs.declared.line_text.Line.{Line, TheVariants.Prices, TheVariants.BadShape, TheVariants.BadPrice}
-use Rattle.text.specs.LineText.{line_of}
+use Rattle.text.specs.declared.line_text.LineError.TheVariants.{BadShape, BadPrice}
+use Rattle.text.specs.LineText.{Line, line_of}
 use Rattle.input_lines.specs.declared.lines.Partial.{Partial}
 use Rattle.input_lines.specs.Lines.{line_feed, piece_end, kept_line, content, partial_of}
 use Rattle.input_lines.proofs.LineLaws.{kept-kept, content-partial}
 use Rattle.text.proofs.LineTextLaws.{line_kept}
 use Rattle.input_lines.proofs.RunLaws.{all_pass, run-taken}
 use Rattle.label_lines.proofs.SessionLaws.{with-feed}
-use Rattle.output_lines.specs.declared.output.Stop.TheVariants.{Going}
 use Rattle.output_lines.specs.Output.{goes_on}
 use Rattle.tally_lines.specs.declared.reading.Gathered.{Gathered}
 use Rattle.tally_lines.specs.Session.{Read, after_line, read_from, line_bars, line_stop}
@@ -61,9 +61,9 @@ read-append bars cur (x ∷ xs) ys = go (eqb x line_feed) (λ more. read-append 
   where
     after : (l : Line) → ((more : List Bar) → read_from more [] (xs ++ ys) ≡ resumed (read_from more [] xs) ys)
         → after_line l bars (λ more. read_from more [] (xs ++ ys)) ≡ resumed (after_line l bars (λ more. read_from more [] xs)) ys
-    after (Prices bar) on = on (bars ++ (bar ∷ []))
-    after BadShape on = refl
-    after (BadPrice place) on = refl
+    after (Ok bar) on = on (bars ++ (bar ∷ []))
+    after (Err BadShape) on = refl
+    after (Err (BadPrice place)) on = refl
 
     go : (t : Bool) → ((more : List Bar) → read_from more [] (xs ++ ys) ≡ resumed (read_from more [] xs) ys)
         → read_from bars (cur ++ (x ∷ [])) (xs ++ ys) ≡ resumed (read_from bars (cur ++ (x ∷ [])) xs) ys
@@ -83,9 +83,9 @@ read_behind before bars cur (x ∷ bytes) = go (eqb x line_feed) (λ more. read_
   where
     after : (l : Line) → ((more : List Bar) → read_from (before ++ more) [] bytes ≡ behind before (read_from more [] bytes))
         → after_line l (before ++ bars) (λ more. read_from more [] bytes) ≡ behind before (after_line l bars (λ more. read_from more [] bytes))
-    after (Prices bar) on = rw append_assoc (on (bars ++ (bar ∷ [])))
-    after BadShape on = refl
-    after (BadPrice place) on = refl
+    after (Ok bar) on = rw append_assoc (on (bars ++ (bar ∷ [])))
+    after (Err BadShape) on = refl
+    after (Err (BadPrice place)) on = refl
 
     go : (t : Bool) → ((more : List Bar) → read_from (before ++ more) [] bytes ≡ behind before (read_from more [] bytes))
         → read_from (before ++ bars) (cur ++ (x ∷ [])) bytes ≡ behind before (read_from bars (cur ++ (x ∷ [])) bytes)
@@ -107,7 +107,7 @@ read-turn cur chunk u n r is going =
 -- ---- bytes up to the end of a line
 
 -- bytes without a line feed
-quiet : (bars : List Bar) (cur xs : List ℕ) → piece_end line_feed xs ≡ length xs → read_from bars cur xs ≡ record { bars = bars; line = kept_line (cur ++ xs); stop = Going }
+quiet : (bars : List Bar) (cur xs : List ℕ) → piece_end line_feed xs ≡ length xs → read_from bars cur xs ≡ record { bars = bars; line = kept_line (cur ++ xs); stop = None }
 unfolding read_from
 quiet bars cur [] e = rw append-nil
 quiet bars cur (x ∷ xs) e =
@@ -117,9 +117,9 @@ quiet bars cur (x ∷ xs) e =
 -- and the line feed behind them
 after-feed : (l : Line) → after_line l [] (λ more. read_from more [] []) ≡ record { bars = line_bars l; line = []; stop = line_stop l }
 unfolding read_from
-after-feed (Prices bar) = refl
-after-feed BadShape = refl
-after-feed (BadPrice place) = refl
+after-feed (Ok bar) = refl
+after-feed (Err BadShape) = refl
+after-feed (Err (BadPrice place)) = refl
 
 pub read-feed : (cur : List ℕ) → read_from [] cur (line_feed ∷ []) ≡ record { bars = line_bars (line_of cur); line = []; stop = line_stop (line_of cur) }
 unfolding read_from
@@ -129,7 +129,7 @@ module _ (cur chunk : List ℕ) (k : ℕ) (is : k ≡ piece_end line_feed chunk)
   alone : piece_end line_feed (take k chunk) ≡ length (take k chunk)
   alone = rw is (run-taken (λ b. not (eqb b line_feed)) chunk)
 
-  pub read-rest : read_from [] cur (take k chunk) ≡ record { bars = []; line = kept_line (cur ++ take k chunk); stop = Going }
+  pub read-rest : read_from [] cur (take k chunk) ≡ record { bars = []; line = kept_line (cur ++ take k chunk); stop = None }
   read-rest = quiet [] cur (take k chunk) alone
 
   pub read-line : k < length chunk
@@ -143,9 +143,9 @@ module _ (cur chunk : List ℕ) (k : ℕ) (is : k ≡ piece_end line_feed chunk)
 
 -- a line gives at most one bar
 pub bars-few : (l : Line) → length (line_bars l) ≤ 1
-bars-few (Prices bar) = omega arith
-bars-few BadShape = omega arith
-bars-few (BadPrice place) = omega arith
+bars-few (Ok bar) = omega arith
+bars-few (Err BadShape) = omega arith
+bars-few (Err (BadPrice place)) = omega arith
 
 -- field by field
 pub gathered-is : (g : Gathered) (used n : ℕ) (r : Read) → g.line ≡ partial_of r.line → g.used ≡ used → g.bars ≡ n + length r.bars → g.stop ≡ r.stop

@@ -1,5 +1,6 @@
 -- Of every input this program prints the table of its bars, or the last line that the labels program prints, a refusal line: both print
 -- by the same lines after the same history. Assumes nothing.
+use Rattle.std.specs.Prelude.{Option, Some, None, Ok, Err}
 use Prim.Native.Nat.{ℕ, zero, suc, ◌+◌, ◌/◌, ◌%◌, ◌≤◌}
 use mathlib.Core.Bool.{Bool, true, false, cond}
 use mathlib.Core.List.{List, [], ◌∷◌, ◌++◌, map, append_assoc, append-nil}
@@ -16,13 +17,13 @@ use Rattle.answers.specs.declared.refusals.Refusal.{Refusal}
 use Rattle.answers.specs.declared.refusals.Refusal.TheVariants as refusal
 use Rattle.recognisers.specs.Refusal.{refusal_number}
 use Rattle.recognisers.specs.Number.{most_bars}
-use Rattle.text.specs.declared.line_text.Line.{Line, TheVariants.Prices, TheVariants.BadShape, TheVariants.BadPrice}
+use Rattle.text.specs.declared.line_text.LineError.TheVariants.{BadShape, BadPrice}
 use Rattle.label_texts.specs.LabelText.{bytes_of}
 use Rattle.input_lines.specs.Lines.{comma}
-use Rattle.text.specs.LineText.{line_of}
+use Rattle.text.specs.LineText.{Line, line_of}
 use Rattle.input_lines.specs.Lines.{line_feed, lines_from, lines_of}
 use Rattle.input_lines.proofs.LineLaws.{lines_end, lines-feed, lines-byte}
-use Rattle.output_lines.specs.declared.output.Stop.{Stop, TheVariants.Going, TheVariants.By, TheVariants.Price}
+use Rattle.output_lines.specs.declared.output.Stop.{Stop, TheVariants.By, TheVariants.Price}
 use Rattle.output_lines.specs.Output.{digit_count, numeral, field, row_line, row_lines, refused_word, refusal_part, goes_on, refusal_line}
 use Rattle.label_lines.specs.History.{newest_lines, lines_print, history_prints}
 use Rattle.label_lines.proofs.HistoryRows.{history-output}
@@ -86,32 +87,32 @@ refusal-free ordinal r =
     free-append (field refused_word comma) (field (numeral ordinal) comma ++ numeral (refusal_number r)) (refl, (refl, (refl, (refl, (refl, (refl, (refl, (refl, tt))))))))
     (free-append (field (numeral ordinal) comma) (numeral (refusal_number r)) (free-field (numeral ordinal) (free-numeral ordinal)) (free-numeral (refusal_number r)))
 
-refusal-one : (ordinal : ℕ) (stop : Stop) → goes_on stop ≡ false → (line : List ℕ) × (lines_of (refusal_line ordinal stop) ≡ line ∷ [])
+refusal-one : (ordinal : ℕ) (stop : Option Stop) → goes_on stop ≡ false → (line : List ℕ) × (lines_of (refusal_line ordinal stop) ≡ line ∷ [])
 unfolding refusal_line refusal_part
-refusal-one ordinal Going e = both_ways refl e
-refusal-one ordinal (By r) e =
+refusal-one ordinal None e = both_ways refl e
+refusal-one ordinal (Some (By r)) e =
     let body = field refused_word comma ++ field (numeral ordinal) comma ++ numeral (refusal_number r) in
     let is : field refused_word comma ++ field (numeral ordinal) comma ++ field (numeral (refusal_number r)) line_feed ≡ body ++ (line_feed ∷ []) = simp append_assoc in
     (body, ap lines_of is ∙ ends-line [] body (refusal-free ordinal r))
-refusal-one ordinal (Price place) e =
+refusal-one ordinal (Some (Price place)) e =
     let front = field refused_word comma ++ field (numeral ordinal) comma ++ numeral (refusal_number refusal.BadPrice) in
     let body = field front comma ++ numeral place in
-    let is : refusal_line ordinal (Price place) ≡ body ++ (line_feed ∷ []) = simp append_assoc in
+    let is : refusal_line ordinal (Some (Price place)) ≡ body ++ (line_feed ∷ []) = simp append_assoc in
     (body, ap lines_of is ∙ ends-line [] body (free-append (field front comma) (numeral place) (free-field front (refusal-free ordinal refusal.BadPrice)) (free-numeral place)))
 
 -- ---- lines after a history
-alone : (ordinal : ℕ) (stop : Stop) → goes_on stop ≡ false → Refused (refusal_line ordinal stop) (refusal_line ordinal stop)
+alone : (ordinal : ℕ) (stop : Option Stop) → goes_on stop ≡ false → Refused (refusal_line ordinal stop) (refusal_line ordinal stop)
 alone ordinal stop e = record { ordinal = ordinal; stop = stop; refused = e; prints = refl; one_line = refusal-one ordinal stop e; rows = []; whole = inl refl; last = refl }
 
 same : (h : List Bar) (lines : List Line) → length h ≤ most_bars → Tabled h lines (tally_prints h lines) ⊎ Refused (history_prints h lines) (tally_prints h lines)
 unfolding lines_print
 same h [] few = inl (record { bars = []; accepted = refl; few = rw append-nil few; prints = rw append-nil })
-same h (BadShape ∷ lines) few = inr (alone (length h + 1) (By refusal.BadShape) refl)
-same h (BadPrice place ∷ lines) few = inr (alone (length h + 1) (Price place) refl)
-same h (Prices bar ∷ lines) few = go (ltb (length h) most_bars) refl (λ room. same (h ++ (bar ∷ [])) lines (rw (length-append h (bar ∷ [])) (omega (arith, ltb-true (length h) most_bars room))))
+same h ((Err BadShape) ∷ lines) few = inr (alone (length h + 1) (Some (By refusal.BadShape)) refl)
+same h (BadPrice place ∷ lines) few = inr (alone (length h + 1) (Some (Price place)) refl)
+same h (Ok bar ∷ lines) few = go (ltb (length h) most_bars) refl (λ room. same (h ++ (bar ∷ [])) lines (rw (length-append h (bar ∷ [])) (omega (arith, ltb-true (length h) most_bars room))))
   where
     behind : {tally printed : List ℕ} → Tabled (h ++ (bar ∷ [])) lines tally ⊎ Refused printed tally
-        → Tabled h (Prices bar ∷ lines) tally ⊎ Refused (newest_lines (h ++ (bar ∷ [])) ++ printed) tally
+        → Tabled h (Ok bar ∷ lines) tally ⊎ Refused (newest_lines (h ++ (bar ∷ [])) ++ printed) tally
     behind (inl t) = inl (record { bars = bar ∷ t.bars; accepted = rw t.accepted; few = rw append_assoc at t.few; prints = rw append_assoc at t.prints })
     behind (inr r) =
         inr (record {
@@ -127,11 +128,11 @@ same h (Prices bar ∷ lines) few = go (ltb (length h) most_bars) refl (λ room.
 
     go : (t : Bool) → ltb (length h) most_bars ≡ t → let more = h ++ (bar ∷ []) in
         (ltb (length h) most_bars ≡ true → Tabled more lines (tally_prints more lines) ⊎ Refused (history_prints more lines) (tally_prints more lines))
-        → let past = refusal_line (length h + 1) (By refusal.TooManyBars) in
+        → let past = refusal_line (length h + 1) (Some (By refusal.TooManyBars)) in
         let tally = cond t (tally_prints more lines) past in
-        Tabled h (Prices bar ∷ lines) tally ⊎ Refused (cond t (newest_lines more ++ history_prints more lines) past) tally
+        Tabled h (Ok bar ∷ lines) tally ⊎ Refused (cond t (newest_lines more ++ history_prints more lines) past) tally
     go true room rest = behind (rest room)
-    go false full rest = inr (alone (length h + 1) (By refusal.TooManyBars) refl)
+    go false full rest = inr (alone (length h + 1) (Some (By refusal.TooManyBars)) refl)
 
 pub same-refusal : (input : List ℕ) → SameRefusal input
 same-refusal input = rw (history-output input) (same [] (map line_of (lines_of input)) (omega arith))

@@ -1,5 +1,5 @@
 -- What bytes leave: fed bars one run behind another, and bytes one run behind another. Assumes nothing.
-use Rattle.std.specs.Prelude.{Err, Ok}
+use Rattle.std.specs.Prelude.{Err, Ok, Option, Some, None}
 use Rattle.answers.specs.Refusal.{Verdict}
 use Prim.Native.Nat.{ℕ, ◌≤◌}
 use mathlib.Core.Bool.{Bool, true, false, cond, ◌&&◌}
@@ -17,7 +17,7 @@ use Rattle.tallies.specs.declared.feeds.Tallied.{Tallied}
 use Rattle.tallies.specs.Feed.{tallied_of}
 use Rattle.input_lines.specs.Lines.{kept_line, content, partial_of}
 use Rattle.input_lines.proofs.LineLaws.{content-partial}
-use Rattle.output_lines.specs.declared.output.Stop.{Stop, TheVariants.Going, TheVariants.By, TheVariants.Price}
+use Rattle.output_lines.specs.declared.output.Stop.{Stop, TheVariants.By, TheVariants.Price}
 use Rattle.output_lines.specs.Output.{goes_on}
 use Rattle.tally_lines.specs.declared.session.Session.{Session}
 use Rattle.tally_lines.specs.Session.{Read, State, read_from, bar_feed, fed_all, settled_by, settled, state_after, state_of, session_of}
@@ -78,12 +78,12 @@ pub state-session : (s : State) → state_of (session_of s) ≡ s
 state-session s = rw (content-partial s.line)
 
 -- no bytes leave it, where its line is the kept bytes of one
-pub none-taken : (l : List ℕ) (b : BarBox) (tally : List TallyRow) (stop : Stop) → kept_line l ≡ l
+pub none-taken : (l : List ℕ) (b : BarBox) (tally : List TallyRow) (stop : Option Stop) → kept_line l ≡ l
     → let s : State = record { line = l; box = b; tally = tally; stop = stop } in state_after s [] ≡ s
 unfolding state_after read_from fed_all
-none-taken l b tally Going e = rw e
-none-taken l b tally (By r) e = refl
-none-taken l b tally (Price place) e = refl
+none-taken l b tally None e = rw e
+none-taken l b tally (Some (By r)) e = refl
+none-taken l b tally (Some (Price place)) e = refl
 
 pub session-stays : (st : Session) (l : List ℕ) → st.line ≡ partial_of (kept_line l) → st ≡ session_of (state_after (state_of st) [])
 session-stays st l e =
@@ -92,7 +92,7 @@ session-stays st l e =
     rw (none-taken (content st.line) st.held st.tally st.stop kept, line, ← e)
 
 -- what was read and fed is what the bytes leave
-pub taken-by : (s : State) (bytes : List ℕ) (o : Tallied) (l : List ℕ) (stop : Stop) → goes_on s.stop ≡ true
+pub taken-by : (s : State) (bytes : List ℕ) (o : Tallied) (l : List ℕ) (stop : Option Stop) → goes_on s.stop ≡ true
     → let r = read_from [] s.line bytes in
     o ≡ fed_all s.box s.tally r.bars → l ≡ r.line → stop ≡ r.stop → settled_by o (record { bars = []; line = l; stop = stop }) ≡ state_after s bytes
 unfolding state_after

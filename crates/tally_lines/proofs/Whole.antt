@@ -1,6 +1,6 @@
 -- What reads leave, and then the input's end prints, is what the input's lines print over the whole history, however it is cut into reads.
 -- Assumes nothing.
-use Rattle.std.specs.Prelude.{Err, Ok}
+use Rattle.std.specs.Prelude.{Err, Ok, Some, None}
 use Rattle.answers.specs.Refusal.{Verdict}
 use Prim.Native.Nat.{ℕ, ◌+◌, ◌≤◌}
 use mathlib.Core.Bool.{Bool, true, false, cond}
@@ -15,13 +15,13 @@ use Rattle.answers.specs.declared.refusals.Refusal.TheVariants as refusal
 use Rattle.recognisers.specs.Number.{most_bars}
 use Rattle.recognisers.specs.Refusal.{leaves}
 use Rattle.tallies.specs.Tally.{fresh_tally}
-use Rattle.text.specs.declared.line_text.Line.{Line, TheVariants.Prices, TheVariants.BadShape, TheVariants.BadPrice}
-use Rattle.text.specs.LineText.{line_of}
+use Rattle.text.specs.declared.line_text.LineError.TheVariants.{BadShape, BadPrice}
+use Rattle.text.specs.LineText.{Line, line_of}
 use Rattle.input_lines.specs.Lines.{line_feed, lines_from, kept_line}
 use Rattle.input_lines.proofs.LineLaws.{lines_end, lines-last, lines-feed, lines-byte}
 use Rattle.output_lines.specs.Output.{refusal_line}
 use Rattle.label_lines.specs.History.{lines_print}
-use Rattle.output_lines.specs.declared.output.Stop.TheVariants.{Going, By}
+use Rattle.output_lines.specs.declared.output.Stop.TheVariants.{By}
 use Rattle.label_lines.proofs.HistoryRows.{box_of}
 use Rattle.tally_lines.specs.Output.{cell_lines, lines_of_tally}
 use Rattle.tally_lines.specs.Session.{Read, State, after_line, read_from, fed_all, settled, state_after, reads_leave, closed, printed, end_prints, fresh_state}
@@ -38,7 +38,7 @@ after h r = settled (box_of h) (history_tally h) r
 module _ (rest : List ℕ) (on : (h : List Bar) → length h ≤ most_bars → end_prints (after h (read_from [] [] rest)) ≡ tally_prints h (map line_of (lines_from [] rest))) where
   bar-line : (h : List Bar) (bar : Bar) (t : Bool) → ltb (length h) most_bars ≡ t → length h ≤ most_bars
       → end_prints (after h (read_from (bar ∷ []) [] rest))
-      ≡ cond t (tally_prints (h ++ (bar ∷ [])) (map line_of (lines_from [] rest))) (refusal_line (length h + 1) (By refusal.TooManyBars))
+      ≡ cond t (tally_prints (h ++ (bar ∷ [])) (map line_of (lines_from [] rest))) (refusal_line (length h + 1) (Some (By refusal.TooManyBars)))
   unfolding fed_all closed
   bar-line h bar true room few =
       let below = ltb-true (length h) most_bars room in
@@ -51,9 +51,9 @@ module _ (rest : List ℕ) (on : (h : List Bar) → length h ≤ most_bars → e
   one_line : (h : List Bar) (l : Line) → length h ≤ most_bars
       → end_prints (after h (after_line l [] (λ more. read_from more [] rest))) ≡ tally_prints h (l ∷ map line_of (lines_from [] rest))
   unfolding lines_print fed_all closed
-  one_line h (Prices bar) few = bar-line h bar (ltb (length h) most_bars) refl few
-  one_line h BadShape few = rw (box-count h)
-  one_line h (BadPrice place) few = rw (box-count h)
+  one_line h (Ok bar) few = bar-line h bar (ltb (length h) most_bars) refl few
+  one_line h (Err BadShape) few = rw (box-count h)
+  one_line h (Err (BadPrice place)) few = rw (box-count h)
 
 -- ---- the input's end
 
@@ -80,17 +80,17 @@ unfolding read_from
 last_line h cur few = one_line [] (λ h' few'. none_left h') h (line_of cur) few
 
 -- one that has takes its line feed in
-begun-left : (h : List Bar) (cur : List ℕ) → after h (read_from [] cur []) ≡ record { line = kept_line cur; box = box_of h; tally = history_tally h; stop = Going }
+begun-left : (h : List Bar) (cur : List ℕ) → after h (read_from [] cur []) ≡ record { line = kept_line cur; box = box_of h; tally = history_tally h; stop = None }
 unfolding read_from fed_all
 begun-left h cur = refl
 
-some-closed : (s : State) → s.stop ≡ Going → eqb (length s.line) 0 ≡ false → closed s ≡ settled s.box s.tally (read_from [] s.line (line_feed ∷ []))
+some-closed : (s : State) → s.stop ≡ None → eqb (length s.line) 0 ≡ false → closed s ≡ settled s.box s.tally (read_from [] s.line (line_feed ∷ []))
 unfolding closed state_after
 some-closed s going some = rw (some, going)
 
 begun-closed : (h : List Bar) (b : ℕ) (bs : List ℕ) → closed (after h (read_from [] (b ∷ bs) [])) ≡ after h (read_from [] (b ∷ bs) (line_feed ∷ []))
 begun-closed h b bs =
-    let s : State = record { line = kept_line (b ∷ bs); box = box_of h; tally = history_tally h; stop = Going } in
+    let s : State = record { line = kept_line (b ∷ bs); box = box_of h; tally = history_tally h; stop = None } in
     let some : eqb (length (kept_line (b ∷ bs))) 0 ≡ false = ne_eqb (length (kept_line (b ∷ bs))) 0 (λ none. omega arith) in
     ap closed (begun-left h (b ∷ bs)) ∙ some-closed s refl some ∙ ap (after h) (read_kept [] (b ∷ bs) (line_feed ∷ []))
 
@@ -132,7 +132,7 @@ reads-join s bytes (more ∷ reads) = rw (← taken-append s bytes more, reads-j
 -- the theorem of the program: however its input is cut into reads, it prints what the input's lines print
 pub reads-print : (reads : List (List ℕ)) → end_prints (reads_leave fresh_state reads) ≡ output_of (flatten reads)
 reads-print reads =
-    ap (λ (s : State). end_prints (reads_leave s reads)) (sym (none-taken [] fresh_state.box fresh_tally Going refl))
+    ap (λ (s : State). end_prints (reads_leave s reads)) (sym (none-taken [] fresh_state.box fresh_tally None refl))
     ∙ ap end_prints (reads-join fresh_state [] reads)
     ∙ whole (flatten reads)
 

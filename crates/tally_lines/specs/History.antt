@@ -6,8 +6,7 @@ use Rattle.recognisers.specs.Threshold.{standard_set}
 use Rattle.tallies.specs.declared.table.TallyRow.{TallyRow}
 use Rattle.tallies.specs.Tally.{fresh_tally, gained}
 use Rattle.tallies.specs.History.{bars_with}
-use Rattle.text.specs.declared.line_text.Line.{Line}
-use Rattle.text.specs.LineText.{line_of}
+use Rattle.text.specs.LineText.{Line, line_of}
 use Rattle.input_lines.specs.Lines.{lines_of}
 use Rattle.label_lines.specs.History.{lines_print}
 use Rattle.tally_lines.specs.Output.{lines_of_tally}

@@ -1,6 +1,6 @@
 -- The tally program, read by read: what it holds between two of them, what the bytes of one leave, and what the input's end prints.
 -- That this is what the input's lines print is proved in proofs/Whole.antt.
-use Rattle.std.specs.Prelude.{Err, Ok}
+use Rattle.std.specs.Prelude.{Err, Ok, Option, Some, None}
 use Rattle.answers.specs.Refusal.{Verdict}
 use Rattle.std.specs.Prelude.{ℕ, ◌+◌, cond, List, [], ◌∷◌, ◌++◌, eqb, length, replicate}
 use Rattle.measures.specs.Bar.{Bar, prices_of}
@@ -15,10 +15,10 @@ use Rattle.tallies.specs.declared.table.TallyRow.{TallyRow}
 use Rattle.tallies.specs.declared.feeds.Tallied.{Tallied}
 use Rattle.tallies.specs.Tally.{fresh_tally}
 use Rattle.tallies.specs.Feed.{lent, tallied_of}
-use Rattle.text.specs.declared.line_text.Line.{Line, TheVariants.Prices, TheVariants.BadShape, TheVariants.BadPrice}
-use Rattle.text.specs.LineText.{line_of}
+use Rattle.text.specs.declared.line_text.LineError.TheVariants.{BadShape, BadPrice}
+use Rattle.text.specs.LineText.{Line, line_of}
 use Rattle.input_lines.specs.Lines.{line_feed, kept_line, content, partial_of}
-use Rattle.output_lines.specs.declared.output.Stop.{Stop, TheVariants.Going, TheVariants.By, TheVariants.Price}
+use Rattle.output_lines.specs.declared.output.Stop.{Stop, TheVariants.By, TheVariants.Price}
 use Rattle.output_lines.specs.Output.{goes_on, refusal_line}
 use Rattle.tally_lines.specs.declared.session.Session.{Session}
 use Rattle.tally_lines.specs.Output.{lines_of_tally}
@@ -29,18 +29,18 @@ use Rattle.tally_lines.specs.Output.{lines_of_tally}
 pub record Read : Type 0 where
   pub bars : List Bar
   pub line : List ℕ
-  pub stop : Stop
+  pub stop : Option Stop
 
 -- a line's bar, and its refusal
 abbrev pub line_bars : Line → List Bar
-line_bars (Prices bar) = bar ∷ []
-line_bars BadShape = []
-line_bars (BadPrice place) = []
+line_bars (Ok bar) = bar ∷ []
+line_bars (Err BadShape) = []
+line_bars (Err (BadPrice place)) = []
 
-abbrev pub line_stop : Line → Stop
-line_stop (Prices bar) = Going
-line_stop BadShape = By refusal.BadShape
-line_stop (BadPrice place) = Price place
+abbrev pub line_stop : Line → Option Stop
+line_stop (Ok bar) = None
+line_stop (Err BadShape) = Some (By refusal.BadShape)
+line_stop (Err (BadPrice place)) = Some (Price place)
 
 -- the end of a line behind these bars: its bar follows them, and reading goes on; a line that is no bar is refused, and it doesn't
 abbrev pub after_line : Line → List Bar → (List Bar → Read) → Read
@@ -48,7 +48,7 @@ after_line l bars on = cond (goes_on (line_stop l)) (on (bars ++ line_bars l)) (
 
 -- bytes behind these bars and a line that has begun with the bytes cur
 unfoldable pub read_from : List Bar → List ℕ → List ℕ → Read
-read_from bars cur [] = record { bars = bars; line = kept_line cur; stop = Going }
+read_from bars cur [] = record { bars = bars; line = kept_line cur; stop = None }
 read_from bars cur (b ∷ bytes) =
     cond (eqb b line_feed) (after_line (line_of cur) bars (λ more. read_from more [] bytes)) (read_from bars (cur ++ (b ∷ [])) bytes)
 
@@ -70,7 +70,7 @@ pub record State : Type 0 where
   pub line : List ℕ
   pub box : BarBox
   pub tally : List TallyRow
-  pub stop : Stop
+  pub stop : Option Stop
 
 -- what a session holds, and the session that holds it
 abbrev pub state_of : Session → State
@@ -80,12 +80,12 @@ abbrev pub session_of : State → Session
 session_of s = record { line = partial_of s.line; held = s.box; tally = s.tally; stop = s.stop }
 
 abbrev pub fresh_state : State
-fresh_state = record { line = []; box = fresh_box standard_set; tally = fresh_tally; stop = Going }
+fresh_state = record { line = []; box = fresh_box standard_set; tally = fresh_tally; stop = None }
 
 -- a refused feed refuses its line
-abbrev pub stop_by : Verdict → Stop → Stop
+abbrev pub stop_by : Verdict → Option Stop → Option Stop
 stop_by (Ok tt) stop = stop
-stop_by (Err r) stop = By r
+stop_by (Err r) stop = Some (By r)
 
 -- what a feed of the bars that were read leaves; behind a bar that is refused, no line has begun
 abbrev pub settled_by : Tallied → Read → State

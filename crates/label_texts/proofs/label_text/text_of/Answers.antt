@@ -1,23 +1,21 @@
--- An element of the table, or no bytes. Assumes nothing.
-use Prim.Native.Nat.{ℕ, ◌-◌, ◌≤◌}
-use mathlib.Core.List.{List, [], ◌++◌}
-use lib.ListN.{length, replicate}
-use Rattle.label_texts.specs.declared.label_text.Text.{Text}
-use Rattle.label_texts.specs.LabelText.{texts_of_labels, most_bytes, text_of}
-use Rattle.rule_types.proofs.ListLaws.{get_d_map}
-use Rattle.label_texts.proofs.LabelLaws.{no_bytes}
+-- The label's bytes over zeros. Assumes nothing.
+use Prim.Native.Nat.{ℕ}
+use native.Mathlib.Omega.{arith}
+use lib.ListN.{length, length-take}
+use Rattle.label_texts.specs.LabelText.{bytes_of, text_of, most_bytes}
+use Rattle.label_texts.proofs.LabelLaws.{short}
+use Rattle.std.proofs.lemmas.List.{drop-replicate}
 use Rattle.label_texts.proofs.label_text.text_of.Goals as goal
 
--- as in text_of
-abbrev filled : List ℕ → Text
-filled s = record { bytes = s ++ replicate (most_bytes - length s) 0; len = length s }
+pub slice_bounds-bytes-end : goal.slice_bounds-bytes-end
+slice_bounds-bytes-end c = rw (c.as_bytes-label.ensures.value, c.label_of.ensures) (short c.args.code)
 
-pub returns-then-i-lt-LABELS : goal.returns-then-i-lt-LABELS
-unfolding text_of
-returns-then-i-lt-LABELS c = get_d_map filled texts_of_labels c.args.code [] _ c.if-i-lt-LABELS.true
+pub slice_bounds-copy_from_slice-end : goal.slice_bounds-copy_from_slice-end
+slice_bounds-copy_from_slice-end c = simp (c.as_bytes-label.ensures.value, c.label_of.ensures, length-take) (omega (arith, short c.args.code))
 
-pub returns-else-i-lt-LABELS : goal.returns-else-i-lt-LABELS
+pub copy_from_slice-requires : goal.copy_from_slice-requires
+copy_from_slice-requires c = simp (c.as_bytes-label.ensures.value, c.label_of.ensures, length-take) (omega (arith, short c.args.code))
+
+pub returns : goal.returns
 unfolding text_of
-returns-else-i-lt-LABELS c =
-    let out : length texts_of_labels ≤ c.args.code = c.if-i-lt-LABELS.false in
-    rw (no_bytes c.args.code out)
+returns c = rw (c.copy_from_slice.ensures.after, c.as_bytes-label.ensures.value, c.label_of.ensures, drop-replicate {X = ℕ} (length (bytes_of c.args.code)) most_bytes 0)

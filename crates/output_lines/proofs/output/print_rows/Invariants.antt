@@ -1,4 +1,4 @@
-use Prim.Native.Nat.{◌+◌, ◌-◌, ◌*◌, ◌≤◌}
+use Prim.Native.Nat.{◌+◌, ◌*◌, ◌≤◌}
 use mathlib.Core.Path.{◌≡◌}
 use lib.ListN.{length, drop}
 use Rattle.measures.specs.Bar.{overlay}
@@ -10,6 +10,3 @@ abbrev pub invariant-loop-k : goal.invariant-loop-k
 invariant-loop-k l =
     let rest = row_lines l.ordinal l.k (drop (2 * l.k) l.sheet) in
     (l.k ≤ recognisers) × (length l.out ≡ length l.initial.out) × (l.place ≤ l.at + longest_row * l.k) × Written l.initial.out l.at (row_lines l.ordinal 0 l.sheet) (overlay l.out l.place rest) (l.place + length rest)
-
-abbrev pub decreases-loop-k : goal.decreases-loop-k
-decreases-loop-k l = recognisers - l.k

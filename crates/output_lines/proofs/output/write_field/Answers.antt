@@ -1,26 +1,16 @@
--- The loop's invariant: the bytes passed stand from the place on. Assumes nothing.
+-- The bytes, and then the one that ends them. Assumes nothing.
+use Prim.Native.Nat.{◌+◌}
 use mathlib.Core.List.{[], ◌∷◌}
-use mathlib.Core.Path.{refl, sym}
+use mathlib.Core.Path.{◌≡◌, refl}
 use native.Mathlib.Omega.{arith}
-use borrow.Author.Rules.{rules}
-use lib.ListN.{length-set, length-append}
-use lib.Seq.{take_all}
-use Rattle.measures.proofs.Overlay.{overlay-none, overlay-next, overlay-copy}
+use lib.ListN.{length, length-append}
+use Rattle.measures.proofs.Overlay.{overlay-next, overlay-part}
 use Rattle.output_lines.proofs.output.write_field.Goals as goal
-
-pub loop-i-init : goal.loop-i-init
-loop-i-init c = (search rules, refl, sym (overlay-none c.args.out.now c.args.at))
-
-pub loop-i-preserved : goal.loop-i-preserved
-loop-i-preserved c =
-    let args = c.args in
-    let inv = c.loop-i.invariant in
-    (search rules, simp length-set inv.1, rw inv.2 (overlay-copy args.out.now args.at args.s.now c.loop-i.i _ 0 refl (omega arith) (omega arith)))
 
 pub returns : goal.returns
 returns c =
     let args = c.args in
     let s = args.s.now in
-    let inv = c.loop-i.invariant in
-    let all = rw (take_all c.loop-i.i s (omega arith)) at inv.2 in
-    (rw (length-append s (args.end ∷ [])) (omega arith), rw all (overlay-next args.out.now args.at s args.end _ (omega arith) (omega arith)))
+    let same : c.copy_from_slice.new.self ≡ s = c.copy_from_slice.ensures.after in
+    let back = overlay-part args.out.now args.at (args.at + length s) s refl in
+    (rw (length-append s (args.end ∷ [])) (omega arith), rw (same, back) (overlay-next args.out.now args.at s args.end _ refl (omega arith)))

@@ -1,4 +1,5 @@
 -- The bytes of a line, with or without its end. Assumes nothing.
+use Rattle.std.specs.Prelude.{None}
 use Prim.Native.Nat.{◌*◌, ◌≤◌, ◌<◌}
 use mathlib.Core.List.{[], ◌++◌}
 use mathlib.Core.Path.{◌≡◌, refl, sym}
@@ -9,7 +10,6 @@ use Rattle.measures.proofs.Overlay.{overlay-none}
 use Rattle.text.specs.LineText.{line_of}
 use Rattle.input_lines.specs.Lines.{content, kept_line}
 use Rattle.input_lines.proofs.LineLaws.{content-partial}
-use Rattle.output_lines.specs.declared.output.Stop.TheVariants.{Going}
 use Rattle.tally_lines.specs.Session.{Read, read_from, line_bars, line_stop}
 use Rattle.tally_lines.proofs.ReadLaws.{read-line, read-rest, bars-few, gathered-is}
 use lib.Seq.{length-take-le}
@@ -39,6 +39,6 @@ returns-else-k-chunk c =
     let chunk = args.chunk.now in
     let k = c.piece_end-k.result in
     let all : length chunk ≤ k = c.if-k-chunk.false in
-    let r : Read = record { bars = []; line = kept_line (content args.line ++ take k chunk); stop = Going } in
+    let r : Read = record { bars = []; line = kept_line (content args.line ++ take k chunk); stop = None } in
     let read = read-rest (content args.line) chunk k c.piece_end-k.ensures.0 in
-    record { le_used = (omega (arith, c.requires.0), c.piece_end-k.ensures.1, omega arith); value = (rw read (gathered-is (record { line = c.extend-longer.result; used = k; bars = args.n; stop = Going }) k args.n r c.extend-longer.ensures refl (omega arith) refl), rw read (sym (overlay-none args.prices.now (4 * args.n)))) }
+    record { le_used = (omega (arith, c.requires.0), c.piece_end-k.ensures.1, omega arith); value = (rw read (gathered-is (record { line = c.extend-longer.result; used = k; bars = args.n; stop = None }) k args.n r c.extend-longer.ensures refl (omega arith) refl), rw read (sym (overlay-none args.prices.now (4 * args.n)))) }
