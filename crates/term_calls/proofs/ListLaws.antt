@@ -12,13 +12,9 @@ use Rattle.measures.proofs.Overlay.{overlay-none, overlay-more}
 use Rattle.bar_box.proofs.BoxLaws.{take_same, drop-same}
 
 module _ {A : Type 0} where
-  -- the part up to an end that is no later than the list's
-  pub part-is : (xs : List A) (p k : ℕ) → p ≤ length xs → take (min (p + k) (length xs) - p) (drop p xs) ≡ take k (drop p xs)
-  part-is xs p k le = take_same (drop p xs) (min (p + k) (length xs) - p) k (omega (arith, length-drop p xs))
-
-  -- what is left behind such an end
-  pub left_is : (xs : List A) (p k : ℕ) → drop k (drop p xs) ≡ drop (min (p + k) (length xs)) xs
-  left_is xs p k = drop-drop k p xs ∙ drop-same xs (p + k) (min (p + k) (length xs)) (omega arith)
+  -- what is left behind an end that is no later than the list's
+  pub left_is : (xs : List A) (p k : ℕ) → drop k (drop p xs) ≡ drop (min (length xs) (p + k)) xs
+  left_is xs p k = drop-drop k p xs ∙ drop-same xs (p + k) (min (length xs) (p + k)) (omega arith)
 
   -- another rest in the place of a list's
   pub put_rest : (xs : List A) (at : ℕ) (ys : List A) → put_mid at (length xs - at) xs ys ≡ take at xs ++ ys

@@ -1,6 +1,7 @@
 -- Calls to a layer of terms, one after the other, each handed the layer that the one before it left; hours and answers as numbers.
-use Rattle.std.specs.Prelude.{Err, Ok}
+use Rattle.std.specs.Prelude.{Result, Err, Ok}
 use Rattle.answers.specs.Refusal.{Verdict}
+use Rattle.answers.specs.declared.refusals.Refusal.{Refusal}
 use Rattle.std.specs.Prelude.{ℕ, zero, suc, ◌+◌, ◌*◌, ◌/◌, min, List, [], ◌∷◌, ◌++◌, length, get_or, take, drop, Float}
 use Rattle.recognisers.specs.Number.{row_bytes}
 use Rattle.recognisers.specs.Refusal.{refusal_number}
@@ -31,6 +32,11 @@ call_of (suc n) prices stamps sheet = Run (take (4 * suc n) prices) (take (suc n
 abbrev pub answer_by : Verdict → ℕ → ℕ
 answer_by (Ok tt) rows = rows
 answer_by (Err r) rows = 16777216 + refusal_number r
+
+-- the same of what a run or a close answers
+abbrev pub answer_in : Result ℕ Refusal → ℕ
+answer_in (Ok rows) = rows
+answer_in (Err r) = 16777216 + refusal_number r
 
 -- the bars that are left, and the sheet behind the rows that were filled, go to the next call
 unfoldable pub answers_of : Layer → List Float → List ℕ → List ℕ → List ℕ → List ℕ

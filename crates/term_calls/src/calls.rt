@@ -1,18 +1,19 @@
 // Runs and closes to a layer of terms, one after the other, with hours and answers as numbers.
-ghost use Rattle.std.specs.Prelude.{[], ◌∷◌, ◌++◌, ◌≡◌, ◌+◌, ◌-◌, ◌*◌, ◌≤◌, ◌<◌, length, take, drop};
+ghost use Rattle.std.specs.Prelude.{[], ◌∷◌, ◌≡◌, ◌+◌, ◌-◌, ◌*◌, ◌≤◌, ◌<◌, length, take};
+ghost use Rattle.std.specs.Result.{result_unwrap_or};
 ghost use Rattle.measures.specs.Bar.{overlay};
 ghost use Rattle.recognisers.specs.Number.{most_bars};
 ghost use Rattle.trading_hours.specs.Hours.{most_windows};
+ghost use Rattle.terms.specs.Layer.{rows_answer};
 ghost use Rattle.terms.specs.History.{called, sheet_after};
 ghost use Rattle.term_calls.specs.Numbers.{written_to};
-ghost use Rattle.term_calls.specs.TermCalls.{window_in, hours_in, call_of, answer_by, answers_of, sheet_through};
+ghost use Rattle.term_calls.specs.TermCalls.{window_in, hours_in, call_of, answer_in, answers_of, sheet_through};
 
 use crate::numbers::number_at;
-use measures::least;
-use recognisers::Verdict;
+use recognisers::Refusal;
 use recognisers::counts::ROW_BYTES;
 use recognisers::refusals::refusal_number;
-use terms::{Layer, Taken};
+use terms::Layer;
 use trading_hours::{DayWindow, Hours};
 
 // The most windows of hours.
@@ -33,64 +34,62 @@ fn window_of(numbers: &[u32], i: usize) -> DayWindow
 pub fn hours_of(numbers: &[u32]) -> Hours
     ensures { result ≡ hours_in numbers.now }
 {
-    let first = window_of(numbers, 0);
-    let second = window_of(numbers, 1);
-    let third = window_of(numbers, 2);
-    let fourth = window_of(numbers, 3);
     Hours {
-        windows: [first, second, third, fourth],
-        count: least((numbers.len() + 1) / 2, MOST_WINDOWS + 1) as u32,
+        windows: [
+            window_of(numbers, 0),
+            window_of(numbers, 1),
+            window_of(numbers, 2),
+            window_of(numbers, 3),
+        ],
+        count: numbers.len().div_ceil(2).min(MOST_WINDOWS + 1) as u32,
     }
 }
 
 // The answer to a call as a number.
-fn answer_number(v: Result<(), Refusal>, rows: usize) -> u32
-    requires { rows ≤ most_bars }
-    ensures { result ≡ answer_by v rows }
+fn answer_number(answer: Result<usize, Refusal>) -> u32
+    requires { result_unwrap_or answer 0 ≤ most_bars }
+    ensures { result ≡ answer_in answer }
 {
-    match v {
-        Ok(()) => rows as u32,
+    match answer {
+        Ok(rows) => rows as u32,
         Err(why) => 16777216 + refusal_number(why) as u32,
     }
 }
 
 // Writes the answer to a call to its place, if there is one.
-fn put_answer(v: Result<(), Refusal>, rows: usize, answers: &mut [u32], i: usize)
-    requires { rows ≤ most_bars }
-    ensures { answers.new ≡ overlay answers.old i (take (length answers.old - i) (answer_by v rows ∷ [])) }
+fn put_answer(answer: Result<usize, Refusal>, answers: &mut [u32], i: usize)
+    requires { result_unwrap_or answer 0 ≤ most_bars }
+    ensures { answers.new ≡ overlay answers.old i (take (length answers.old - i) (answer_in answer ∷ [])) }
 {
+    // no `get_mut`: of what is written through it a proof knows the length alone
     if i < answers.len() {
-        answers[i] = answer_number(v, rows);
+        answers[i] = answer_number(answer);
     }
 }
 
-// One call of a size, lent the prices from p on, the stamps from s on and the sheet from a byte on.
+// One call of a size, lent the prices and stamps that are left.
 fn make_call(
-    l: Layer,
+    l: &mut Layer,
     size: u32,
     prices: &[f64],
-    p: usize,
     stamps: &[u32],
-    s: usize,
     sheet: &mut [u8],
-    at: usize,
-) -> Taken
-    requires { (p ≤ length prices.now) × (s ≤ length stamps.now) × (at ≤ length sheet.old) }
-    ensures { let x = call_of size (drop p prices.now) (drop s stamps.now) (drop at sheet.old) in
-        (result ≡ called l x) × (sheet.new ≡ take at sheet.old ++ sheet_after l x) }
+) -> Result<usize, Refusal>
+    ensures { let x = call_of size prices.now stamps.now sheet.old in
+        (result ≡ rows_answer (called l.old x)) × (l.new ≡ (called l.old x).after) × (sheet.new ≡ sheet_after l.old x) }
 {
     if size == 0 {
-        return terms::close(l, &mut sheet[at..]);
+        return terms::close(l, sheet);
     }
     let n = size as usize;
-    let p_end = least(p + 4 * n, prices.len());
-    let s_end = least(s + n, stamps.len());
-    terms::run(l, &prices[p..p_end], &stamps[s..s_end], &mut sheet[at..])
+    let p_end = prices.len().min(4 * n);
+    let s_end = stamps.len().min(n);
+    terms::run(l, &prices[..p_end], &stamps[..s_end], sheet)
 }
 
 // Calls of these sizes, one after the other; each answer goes to its place, if there is one.
 pub fn make_calls(
-    l: Layer,
+    mut l: Layer,
     sizes: &[u32],
     prices: &[f64],
     stamps: &[u32],
@@ -100,23 +99,15 @@ pub fn make_calls(
     ensures { (sheet.new ≡ sheet_through l prices.now stamps.now sheet.old sizes.now)
         × (answers.new ≡ written_to answers.old (answers_of l prices.now stamps.now sheet.old sizes.now)) }
 {
-    let mut layer = l;
     let mut p = 0usize;
     let mut s = 0usize;
     let mut at = 0usize;
-    let mut i = 0usize;
-    while i < sizes.len() {
-        let size = sizes[i];
+    for (i, &size) in sizes.iter().enumerate() {
         let n = size as usize;
-        let p_next = least(p + 4 * n, prices.len());
-        let s_next = least(s + n, stamps.len());
-        let out = make_call(layer, size, prices, p, stamps, s, sheet, at);
-        let verdict = out.verdict;
-        put_answer(verdict, out.rows, answers, i);
-        at += ROW_BYTES * out.rows;
-        layer = out.after;
-        p = p_next;
-        s = s_next;
-        i += 1;
+        let answer = make_call(&mut l, size, &prices[p..], &stamps[s..], &mut sheet[at..]);
+        put_answer(answer, answers, i);
+        p = prices.len().min(p + 4 * n);
+        s = stamps.len().min(s + n);
+        at += ROW_BYTES * answer.unwrap_or(0);
     }
 }

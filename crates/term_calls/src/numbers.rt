@@ -5,5 +5,5 @@ ghost use Rattle.std.specs.Prelude.{◌≡◌, get_or};
 pub fn number_at(numbers: &[u32], i: usize) -> u32
     ensures { result ≡ get_or numbers.now i 0 }
 {
-    if i < numbers.len() { numbers[i] } else { 0 }
+    numbers.get(i).copied().unwrap_or(0)
 }

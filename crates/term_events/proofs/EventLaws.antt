@@ -1,4 +1,5 @@
 -- Lists of events: one after the other, how many term bars end in them, and the events of a run. Assumes nothing.
+use Rattle.std.specs.Prelude.{Option, Some, None}
 use Prim.Native.Nat.{ℕ, ◌+◌, ◌≤◌}
 use mathlib.Core.Path.{◌≡◌, refl, sym}
 use mathlib.Core.List.{List, [], ◌∷◌, ◌++◌, append_assoc, append-nil}
@@ -7,13 +8,12 @@ use lib.ListN.{length, take, drop, length-append}
 use lib.Seq.{take-add}
 use Rattle.measures.specs.Bar.{Bar}
 use Rattle.trading_hours.specs.declared.hours.Hours.{Hours}
-use Rattle.term_events.specs.declared.events.OpenBar.{OpenBar, TheVariants.Nothing, TheVariants.Begun}
 use Rattle.term_events.specs.declared.events.Carried.{Carried}
 use Rattle.term_events.specs.Events.{Event, Minute, Close, open_bars, ended_at, carried_at, ended_of, carried_of, stamp_after, minutes_of, minute_step}
 
-pub few-in : (p : OpenBar) → length (open_bars p) ≤ 1
-few-in Nothing = omega arith
-few-in (Begun b) = omega arith
+pub few-in : (p : Option Bar) → length (open_bars p) ≤ 1
+few-in None = omega arith
+few-in (Some b) = omega arith
 
 module _ (h : Hours) (m : ℕ) where
   -- ---- one list after the other

@@ -1,6 +1,6 @@
 -- Stamps that a run isn't refused for, one after the other, with the end of the last one's term; and what passing its bars leaves. Assumes
 -- nothing.
-use Rattle.std.specs.Prelude.{Ok}
+use Rattle.std.specs.Prelude.{Option, Some, None, is_some, Ok}
 use Prim.Native.Nat.{ℕ, zero, suc, ◌+◌, ◌*◌, ◌/◌, ◌≤◌, ◌<◌}
 use mathlib.Core.Path.{◌≡◌, refl, ap, sym, ◌∙◌}
 use mathlib.Core.Logic.{⊎_elim}
@@ -13,7 +13,7 @@ use lib.Dec.{ltb, eqb}
 use lib.ListN.{length, get_or, take, drop, drop_of_length-le, length-append}
 use lib.Seq.{drop-cons}
 use lib.Ieee.{Float}
-use borrow.Author.Tests.{ltb-true, le-ltb, eqb-true, eqb-false}
+use borrow.Author.Tests.{ltb-true, le-ltb, eq-eqb, eqb-true, eqb-false}
 use Rattle.measures.specs.Bar.{Bar, no_bar, overlay, prices_of}
 use Rattle.measures.proofs.Overlay.{overlay-none, overlay-more, length-overlay}
 use Rattle.measures.proofs.PriceLaws.{length-prices, prices-append, put-room}
@@ -23,12 +23,10 @@ use Rattle.trading_hours.specs.Hours.{in_hours}
 use Rattle.trading_hours.specs.TermRule.{end_of}
 use Rattle.trading_hours.proofs.HourLaws.{both, term-some}
 use Rattle.trading_hours.proofs.EndLaws.{end-rule}
-use Rattle.term_events.specs.declared.events.LastStamp.{LastStamp, TheVariants.Never, TheVariants.At}
-use Rattle.term_events.specs.declared.events.OpenBar.{OpenBar, TheVariants.Nothing, TheVariants.Begun}
 use Rattle.term_events.specs.declared.events.{Carried.Carried, Passed.Passed, Step.Step}
 use Rattle.term_events.specs.Events.{Event, Minute, in_term_of, minute_step, step_by, open_bars, ended_of, carried_of, minutes_of}
 use Rattle.term_events.specs.Verdicts.{above, sound_carried, valid_layer, stamps_tried}
-use Rattle.term_events.specs.EventSteps.{end_after, next_end, inside_by, EndKnown, some_in, put_ended, passed_with, pass_of, Ready}
+use Rattle.term_events.specs.EventSteps.{end_after, next_end, inside_by, EndKnown, put_ended, passed_with, pass_of, Ready}
 use Rattle.term_events.proofs.StampLaws.{first-passed, sound-closed}
 use Rattle.term_events.proofs.VerdictLaws.{layer-meets}
 
@@ -36,10 +34,10 @@ use Rattle.term_events.proofs.VerdictLaws.{layer-meets}
 
 module _ (h : Hours) (m end s : ℕ) where
   -- before the end of the last one's term it lies in the hours, and its own term ends there too
-  pub end-inside : (last : LastStamp) → EndKnown h m last end → above last s ≡ true → s < end → (in_hours h s ≡ true) × (end_of h m s ≡ end)
+  pub end-inside : (last : Option ℕ) → EndKnown h m last end → above last s ≡ true → s < end → (in_hours h s ≡ true) × (end_of h m s ≡ end)
   unfolding above end_after sound_carried
-  end-inside Never k up lt = let none = k.end_is in absurd (let z : ⊥ = omega arith in z)
-  end-inside (At a) k up lt =
+  end-inside None k up lt = let none = k.end_is in absurd (let z : ⊥ = omega arith in z)
+  end-inside (Some a) k up lt =
       let e = k.end_is in
       let rule = end-rule h m k.some k.valid in
       let later = ltb-true a s up in
@@ -47,28 +45,28 @@ module _ (h : Hours) (m end s : ℕ) where
       (there.0, rule.same_end s a there.1 ∙ sym e)
 
   -- it goes on in that term exactly if it lies before the end
-  pub end-in-term : (last : LastStamp) → EndKnown h m last end → above last s ≡ true → in_hours h s ≡ true → in_term_of h m last s ≡ ltb s end
+  pub end-in-term : (last : Option ℕ) → EndKnown h m last end → above last s ≡ true → in_hours h s ≡ true → in_term_of h m last s ≡ ltb s end
   unfolding above end_after sound_carried in_term_of
-  end-in-term Never k up there = rw k.end_is (sym (le-ltb s 0 (omega arith)))
-  end-in-term (At a) k up there =
+  end-in-term None k up there = rw k.end_is (sym (le-ltb s 0 (omega arith)))
+  end-in-term (Some a) k up there =
       let rule = end-rule h m k.some k.valid in
       let later = ltb-true a s up in
       rule.same-before a s k.sound there (omega arith) ∙ rw k.end_is
 
   -- and is then the last one itself
-  pub end-next : (last : LastStamp) → EndKnown h m last end → in_hours h s ≡ true → EndKnown h m (At s) (end_of h m s)
+  pub end-next : (last : Option ℕ) → EndKnown h m last end → in_hours h s ≡ true → EndKnown h m (Some s) (end_of h m s)
   unfolding end_after sound_carried
   end-next last k there = record { some = k.some; valid = k.valid; sound = there; end_is = refl }
 
   -- the code's tests, by the end
-  pub next-end-is : (last : LastStamp) → EndKnown h m last end → above last s ≡ true → next_end h m end s ≡ end_of h m s
+  pub next-end-is : (last : Option ℕ) → EndKnown h m last end → above last s ≡ true → next_end h m end s ≡ end_of h m s
   next-end-is last k up = go (ltb s end) refl
     where
       go : (b : Bool) → ltb s end ≡ b → cond b end (end_of h m s) ≡ end_of h m s
       go true e = sym (end-inside last k up (ltb-true s end e)).1
       go false e = refl
 
-  pub inside_is : (last : LastStamp) → EndKnown h m last end → above last s ≡ true → inside_by h end s ≡ in_hours h s
+  pub inside_is : (last : Option ℕ) → EndKnown h m last end → above last s ≡ true → inside_by h end s ≡ in_hours h s
   inside_is last k up = go (ltb s end) refl
     where
       go : (b : Bool) → ltb s end ≡ b → cond b true (in_hours h s) ≡ in_hours h s
@@ -121,10 +119,10 @@ pub record PassedBy (h : Hours) (m : ℕ) (c : Carried) (es : List Event) (k cou
   pub prices : r.1 ≡ overlay run (4 * count) (prices_of (ended_of h m c (take passed es)))
   pub carried : r.0.carried ≡ carried_of h m c (take passed es)
 
-put_is : (run : List Float) (place : ℕ) (p : OpenBar) → place + length (open_bars p) ≤ length run / 4 → put_ended run place p ≡ overlay run (4 * place) (prices_of (open_bars p))
+put_is : (run : List Float) (place : ℕ) (p : Option Bar) → place + length (open_bars p) ≤ length run / 4 → put_ended run place p ≡ overlay run (4 * place) (prices_of (open_bars p))
 unfolding prices_of
-put_is run place Nothing room = sym (overlay-none run (4 * place))
-put_is run place (Begun b) room = put-room run place b (omega arith)
+put_is run place None room = sym (overlay-none run (4 * place))
+put_is run place (Some b) room = put-room run place b (omega arith)
 
 drop-next : {A : Type 0} (xs : List A) (k : ℕ) (d : A) → k < length xs → drop k xs ≡ get_or xs k d ∷ drop (k + 1) xs
 drop-next xs k d within = rw (add-one k) (drop-cons xs k d within)
@@ -134,9 +132,9 @@ by-test P true on off = on refl
 by-test P false on off = off refl
 
 -- where passing goes on there is room for what ended
-room_for : (count room : ℕ) (p : OpenBar) → (some_in p && eqb count room) ≡ false → count ≤ room → count + length (open_bars p) ≤ room
-room_for count room Nothing e le = omega arith
-room_for count room (Begun b) e le = ⊎_elim (λ (same : count ≡ room). absurd (eqb-false count room e same)) (λ (less : count < room). (let z : count + 1 ≤ room = omega arith in z)) (eq-or-lt_of_le le)
+room_for : (count room : ℕ) (p : Option Bar) → (is_some p && eqb count room) ≡ false → count ≤ room → count + length (open_bars p) ≤ room
+room_for count room None e le = omega arith
+room_for count room (Some b) e le = ⊎_elim (λ (same : count ≡ room). absurd (eqb-false count room e same)) (λ (less : count < room). (let z : count + 1 ≤ room = omega arith in z)) (eq-or-lt_of_le le)
 
 module _ (h : Hours) (m : ℕ) (bars : List Bar) where
   module _ (c : Carried) (k count : ℕ) (run : List Float) (s : ℕ) (ss : List ℕ) (ready : Ready h m c (s ∷ ss)) (le : count ≤ length run / 4) where
@@ -153,7 +151,7 @@ module _ (h : Hours) (m : ℕ) (bars : List Bar) where
     later = minutes_of ss (drop (k + 1) bars)
 
     -- the stamp is above the last one, lies in the hours, and no refusal stops those after it
-    first : (above c.last s ≡ true) × (in_hours h s ≡ true) × (first_true (stamps_tried h (At s) ss) ≡ Ok tt)
+    first : (above c.last s ≡ true) × (in_hours h s ≡ true) × (first_true (stamps_tried h (Some s) ss) ≡ Ok tt)
     first = first-passed h c.last s ss ready.rising
 
     known : EndKnown h m c.last end
@@ -172,10 +170,10 @@ module _ (h : Hours) (m : ℕ) (bars : List Bar) where
     next_known = next-end-is h m end s c.last known first.0
 
     -- no room for the bar that the next one ends
-    stops : (some_in step.ended && eqb count (length run / 4)) ≡ true → PassedBy h m c (Minute s bar ∷ later) k count run (passed_with k count c, run)
+    stops : (is_some step.ended && eqb count (length run / 4)) ≡ true → PassedBy h m c (Minute s bar ∷ later) k count run (passed_with k count c, run)
     unfolding ended_of carried_of prices_of
     stops e =
-        let full : count ≡ length run / 4 = eqb-true count (length run / 4) (both (some_in step.ended) (eqb count (length run / 4)) e).1 in
+        let full : count ≡ length run / 4 = eqb-true count (length run / 4) (both (is_some step.ended) (eqb count (length run / 4)) e).1 in
         record {
           passed = 0;
           at = omega arith;
@@ -190,14 +188,14 @@ module _ (h : Hours) (m : ℕ) (bars : List Bar) where
     abbrev ended : List Bar
     ended = open_bars step.ended
 
-    room_after : (some_in step.ended && eqb count (length run / 4)) ≡ false → count + length ended ≤ length (put_ended run count step.ended) / 4
+    room_after : (is_some step.ended && eqb count (length run / 4)) ≡ false → count + length ended ≤ length (put_ended run count step.ended) / 4
     room_after e =
         let fits = room_for count (length run / 4) step.ended e le in
         let four = length-prices ended in
         rw (put_is run count step.ended fits, length-overlay run (4 * count) (prices_of ended) (omega arith)) fits
 
     -- the next one is passed
-    goes_on : (some_in step.ended && eqb count (length run / 4)) ≡ false → (r : Passed × List Float)
+    goes_on : (is_some step.ended && eqb count (length run / 4)) ≡ false → (r : Passed × List Float)
         → PassedBy h m step.carried later (k + 1) (count + length ended) (put_ended run count step.ended) r
         → PassedBy h m c (Minute s bar ∷ later) k count run r
     unfolding ended_of carried_of
@@ -225,7 +223,7 @@ module _ (h : Hours) (m : ℕ) (bars : List Bar) where
 
     -- the next one is passed, or not
     first-passed-by : k + length (s ∷ ss) ≡ length bars
-        → (((some_in step.ended && eqb count (length run / 4)) ≡ false) → PassedBy h m step.carried later (k + 1) (count + length ended) (put_ended run count step.ended) (pass_of h m bars step.carried (end_after h m step.carried.last) (k + 1) (count + length ended) (put_ended run count step.ended) ss))
+        → (((is_some step.ended && eqb count (length run / 4)) ≡ false) → PassedBy h m step.carried later (k + 1) (count + length ended) (put_ended run count step.ended) (pass_of h m bars step.carried (end_after h m step.carried.last) (k + 1) (count + length ended) (put_ended run count step.ended) ss))
         → PassedBy h m c (minutes_of (s ∷ ss) (drop k bars)) k count run (pass_of h m bars c end k count run (s ∷ ss))
     unfolding pass_of minutes_of
     first-passed-by each rest = rw (drop-next bars k no_bar (omega arith)) (by-test (PassedBy h m c (Minute s bar ∷ later) k count run) _ stops (λ e. goes_on e _ (rw next_known (rest e))))
@@ -247,12 +245,19 @@ module _ (h : Hours) (m : ℕ) (bars : List Bar) where
 -- ---- the code's loop: one turn, and its end
 
 module _ (h : Hours) (m : ℕ) (bars : List Bar) (c : Carried) (end k count : ℕ) (run : List Float) (ss : List ℕ) where
-  pub pass-next : k < length ss → (step : Step) → step ≡ step_by (ltb (get_or ss k 0) end) c (get_or ss k 0) (get_or bars k no_bar)
-      → pass_of h m bars c end k count run (drop k ss)
-      ≡ cond (some_in step.ended && eqb count (length run / 4)) (passed_with k count c, run)
-      (pass_of h m bars step.carried (next_end h m end (get_or ss k 0)) (k + 1) (count + length (open_bars step.ended)) (put_ended run count step.ended) (drop (k + 1) ss))
-  unfolding pass_of
-  pass-next within step e = rw (drop-next ss k 0 within, e)
+  module _ (step : Step) (is : step ≡ step_by (ltb (get_or ss k 0) end) c (get_or ss k 0) (get_or bars k no_bar)) (within : k < length ss) where
+    by_step : pass_of h m bars c end k count run (drop k ss)
+        ≡ cond (is_some step.ended && eqb count (length run / 4)) (passed_with k count c, run)
+        (pass_of h m bars step.carried (next_end h m end (get_or ss k 0)) (k + 1) (count + length (open_bars step.ended)) (put_ended run count step.ended) (drop (k + 1) ss))
+    unfolding pass_of
+    by_step = rw (drop-next ss k 0 within, is)
+
+    pub pass-stops : is_some step.ended ≡ true → count ≡ length run / 4 → pass_of h m bars c end k count run (drop k ss) ≡ (passed_with k count c, run)
+    pass-stops some full = by_step ∙ rw (some, eq-eqb count (length run / 4) full)
+
+    pub pass-next : (is_some step.ended && eqb count (length run / 4)) ≡ false → pass_of h m bars c end k count run (drop k ss)
+        ≡ pass_of h m bars step.carried (next_end h m end (get_or ss k 0)) (k + 1) (count + length (open_bars step.ended)) (put_ended run count step.ended) (drop (k + 1) ss)
+    pass-next on = by_step ∙ rw on
 
   pub pass-past : length ss ≤ k → pass_of h m bars c end k count run (drop k ss) ≡ (passed_with k count c, run)
   unfolding pass_of

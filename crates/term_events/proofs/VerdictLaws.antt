@@ -1,5 +1,5 @@
 -- The calls' verdicts: what an accepted run or close meets. Assumes nothing.
-use Rattle.std.specs.Prelude.{Err, Ok}
+use Rattle.std.specs.Prelude.{Option, Err, Ok}
 use Rattle.answers.specs.Refusal.{Verdict}
 use Prim.Native.Nat.{ℕ, ◌/◌}
 use mathlib.Core.Path.{◌≡◌, refl, ◌∙◌}
@@ -15,7 +15,7 @@ use Rattle.answers.proofs.VerdictLaws.{none_true, accepts}
 use Rattle.trading_hours.specs.declared.hours.Hours.{Hours}
 use Rattle.trading_hours.specs.Hours.{valid_hours, term_length}
 use Rattle.trading_hours.proofs.HourLaws.{both}
-use Rattle.term_events.specs.declared.events.{LastStamp.LastStamp, Carried.Carried}
+use Rattle.term_events.specs.declared.events.{Carried.Carried}
 use Rattle.term_events.specs.Verdicts.{stamps_tried, sound_carried, valid_layer, run_tried, close_tried, run_verdict, close_verdict}
 
 -- ---- the tests of a run: those that are checked as a feed's, and then those of the stamps
@@ -42,7 +42,7 @@ module _ (t : Thresholds) (valid : Bool) (n prices : ℕ) (stamps : List ℕ) (s
   unfolding checked_tried feed_tried next_after first_true
   as-feed = e
 
-  pub run-checked : (h : Hours) (last : LastStamp) → run_tried t valid h last n prices stamps sheet ≡ then_tried v (first_true (stamps_tried h last stamps))
+  pub run-checked : (h : Hours) (last : Option ℕ) → run_tried t valid h last n prices stamps sheet ≡ then_tried v (first_true (stamps_tried h last stamps))
   unfolding run_tried
   run-checked h last = first-append as_feed (stamps_tried h last stamps) ∙ rw as-feed
 

@@ -1,22 +1,21 @@
 -- What the loops over the bars of a run go through: no part of what the layer promises.
-use Rattle.std.specs.Prelude.{Ok}
-use Rattle.std.specs.Prelude.{ℕ, ◌+◌, ◌/◌, ◌≤◌, ◌≡◌, Bool, true, false, cond, ◌&&◌, List, [], ◌∷◌, ltb, eqb, length, get_or, Float}
+use Rattle.std.specs.Prelude.{Option, Some, None, is_some, Ok}
+use Rattle.std.specs.Prelude.{ℕ, ◌+◌, ◌/◌, ◌≤◌, ◌≡◌, Bool, true, cond, ◌&&◌, List, [], ◌∷◌, ltb, eqb, length, get_or, Float}
 use Rattle.recognisers.specs.Refusal.{first_true}
 use Rattle.measures.specs.Bar.{Bar, no_bar, put_bar}
 use Rattle.trading_hours.specs.declared.hours.Hours.{Hours}
 use Rattle.trading_hours.specs.Hours.{valid_hours, in_hours}
 use Rattle.trading_hours.specs.TermRule.{end_of}
-use Rattle.term_events.specs.declared.events.{LastStamp.LastStamp, OpenBar.OpenBar, OpenBar.TheVariants.Nothing, OpenBar.TheVariants.Begun, Carried.Carried, Passed.Passed}
-use Rattle.term_events.specs.declared.events.LastStamp.TheVariants.{Never, At}
+use Rattle.term_events.specs.declared.events.{Carried.Carried, Passed.Passed}
 use Rattle.term_events.specs.Events.{step_by, open_bars}
 use Rattle.term_events.specs.Verdicts.{sound_carried, stamps_tried}
 
 -- ---- the end of the last stamp's term, which is found once a term
 
 -- 0 if there is no stamp
-unfoldable pub end_after : Hours → ℕ → LastStamp → ℕ
-end_after h m Never = 0
-end_after h m (At stamp) = end_of h m stamp
+unfoldable pub end_after : Hours → ℕ → Option ℕ → ℕ
+end_after h m None = 0
+end_after h m (Some stamp) = end_of h m stamp
 
 -- the end of the next stamp's term, and whether it lies in the hours, by that end
 abbrev pub next_end : Hours → ℕ → ℕ → ℕ → ℕ
@@ -26,23 +25,18 @@ abbrev pub inside_by : Hours → ℕ → ℕ → Bool
 inside_by h end stamp = cond (ltb stamp end) true (in_hours h stamp)
 
 -- what a loop over stamps knows of the last one
-pub record EndKnown (h : Hours) (m : ℕ) (last : LastStamp) (end : ℕ) : Type 0 where
+pub record EndKnown (h : Hours) (m : ℕ) (last : Option ℕ) (end : ℕ) : Type 0 where
   pub some : 1 ≤ m
   pub valid : valid_hours h ≡ true
-  pub sound : sound_carried h last Nothing ≡ true
+  pub sound : sound_carried h last None ≡ true
   pub end_is : end ≡ end_after h m last
 
 -- ---- passing bars
 
--- whether there is a bar
-abbrev pub some_in : OpenBar → Bool
-some_in Nothing = false
-some_in (Begun b) = true
-
 -- the prices of an ended bar in a run, if there is room
-abbrev pub put_ended : List Float → ℕ → OpenBar → List Float
-put_ended run place Nothing = run
-put_ended run place (Begun b) = put_bar run place b
+abbrev pub put_ended : List Float → ℕ → Option Bar → List Float
+put_ended run place None = run
+put_ended run place (Some b) = put_bar run place b
 
 abbrev pub passed_with : ℕ → ℕ → Carried → Passed
 passed_with k count c = record { at = k; count = count; carried = c }
@@ -53,7 +47,7 @@ unfoldable pub pass_of : Hours → ℕ → List Bar → Carried → ℕ → ℕ 
 pass_of h m bars c end k count run [] = (passed_with k count c, run)
 pass_of h m bars c end k count run (s ∷ ss) =
     let step = step_by (ltb s end) c s (get_or bars k no_bar) in
-    cond (some_in step.ended && eqb count (length run / 4)) (passed_with k count c, run)
+    cond (is_some step.ended && eqb count (length run / 4)) (passed_with k count c, run)
     (pass_of h m bars step.carried (next_end h m end s) (k + 1) (count + length (open_bars step.ended)) (put_ended run count step.ended) ss)
 
 -- what a run that is not refused knows of the layer and of the stamps that come to it

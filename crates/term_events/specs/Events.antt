@@ -1,5 +1,5 @@
 -- 02, P6: term bars from a list of events, each a bar with its stamp or a close, as a plain definition on lists.
-use Rattle.std.specs.Prelude.{ℕ, ◌≡◌, Bool, true, false, cond}
+use Rattle.std.specs.Prelude.{Option, Some, None, ℕ, ◌≡◌, Bool, true, false, cond}
 use mathlib.Core.List.{List, [], ◌∷◌, ◌++◌, foldl, map, Memᴰ}
 use Rattle.measures.specs.Bar.{Bar, bar_of, no_bar}
 use Rattle.measures.specs.Price.{max_of, min_of}
@@ -7,8 +7,7 @@ use Rattle.measures.specs.declared.folds.Column.TheVariants.{Close as CloseOf, H
 use Rattle.measures.specs.Fold.{column_of}
 use Rattle.trading_hours.specs.declared.hours.Hours.{Hours}
 use Rattle.trading_hours.specs.Hours.{term_of, same_term}
-use Rattle.term_events.specs.declared.events.{LastStamp.LastStamp, OpenBar.OpenBar, OpenBar.TheVariants.Nothing, OpenBar.TheVariants.Begun, Carried.Carried, Step.Step}
-use Rattle.term_events.specs.declared.events.LastStamp.TheVariants.{Never, At}
+use Rattle.term_events.specs.declared.events.{Carried.Carried, Step.Step}
 
 pub data Event : Type 0 where
   Minute : ℕ → Bar → Event
@@ -16,17 +15,17 @@ pub data Event : Type 0 where
 
 -- ---- what is carried from one event to the next: the stamp of the last bar, and the open term bar
 
-abbrev pub carried_with : LastStamp → OpenBar → Carried
+abbrev pub carried_with : Option ℕ → Option Bar → Carried
 carried_with last pending = record { last = last; pending = pending }
 
 -- nothing came yet
 abbrev pub nothing_yet : Carried
-nothing_yet = carried_with Never Nothing
+nothing_yet = carried_with None None
 
 -- whether a stamp lies in the term of the last one; accepted stamps rise, so another term is a later one
-unfoldable pub in_term_of : Hours → ℕ → LastStamp → ℕ → Bool
-in_term_of h m Never stamp = false
-in_term_of h m (At last) stamp = same_term (term_of h m last) (term_of h m stamp)
+unfoldable pub in_term_of : Hours → ℕ → Option ℕ → ℕ → Bool
+in_term_of h m None stamp = false
+in_term_of h m (Some last) stamp = same_term (term_of h m last) (term_of h m stamp)
 
 -- ---- one event
 
@@ -35,28 +34,28 @@ unfoldable pub joined_bar : Bar → Bar → Bar
 joined_bar a b = bar_of a.«open» b.close (max_of a.high b.high) (min_of a.low b.low)
 
 -- the open term bar after a bar came, by whether the bar is of its term
-abbrev pub opened : OpenBar → Bool → Bar → OpenBar
-opened Nothing same b = Begun b
-opened (Begun a) true b = Begun (joined_bar a b)
-opened (Begun a) false b = Begun b
+abbrev pub opened : Option Bar → Bool → Bar → Option Bar
+opened None same b = Some b
+opened (Some a) true b = Some (joined_bar a b)
+opened (Some a) false b = Some b
 
 -- the term bar that the bar ended: "A term ends when a bar of a later one arrives"
-abbrev pub ended_by : OpenBar → Bool → OpenBar
-ended_by Nothing same = Nothing
-ended_by (Begun a) true = Nothing
-ended_by (Begun a) false = Begun a
+abbrev pub ended_by : Option Bar → Bool → Option Bar
+ended_by None same = None
+ended_by (Some a) true = None
+ended_by (Some a) false = Some a
 
 -- one bar, by whether it is of the term of the last one
 abbrev pub step_by : Bool → Carried → ℕ → Bar → Step
-step_by same c stamp b = record { ended = ended_by c.pending same; carried = carried_with (At stamp) (opened c.pending same b) }
+step_by same c stamp b = record { ended = ended_by c.pending same; carried = carried_with (Some stamp) (opened c.pending same b) }
 
 unfoldable pub minute_step : Hours → ℕ → Carried → ℕ → Bar → Step
 minute_step h m c stamp b = step_by (in_term_of h m c.last stamp) c stamp b
 
 -- one bar or none: "Terms without a bar give none"
-abbrev pub open_bars : OpenBar → List Bar
-open_bars Nothing = []
-open_bars (Begun b) = b ∷ []
+abbrev pub open_bars : Option Bar → List Bar
+open_bars None = []
+open_bars (Some b) = b ∷ []
 
 -- what an event ends, and what is carried on after it: "or the caller closes the day". A close keeps the stamp and leaves nothing open, so that
 -- "a bar that comes after a close within its own term begins a term bar of its own"
@@ -66,7 +65,7 @@ ended_at h m c Close = open_bars c.pending
 
 abbrev pub carried_at : Hours → ℕ → Carried → Event → Carried
 carried_at h m c (Minute stamp b) = (minute_step h m c stamp b).carried
-carried_at h m c Close = carried_with c.last Nothing
+carried_at h m c Close = carried_with c.last None
 
 -- ---- a list of events: the term bars that end in it, and what is left
 
@@ -79,9 +78,9 @@ carried_of h m c [] = c
 carried_of h m c (e ∷ es) = carried_of h m (carried_at h m c e) es
 
 -- the stamp of the last bar in a list of events after a last stamp; a close leaves it
-unfoldable pub stamp_after : LastStamp → List Event → LastStamp
+unfoldable pub stamp_after : Option ℕ → List Event → Option ℕ
 stamp_after last [] = last
-stamp_after last (Minute stamp b ∷ es) = stamp_after (At stamp) es
+stamp_after last (Minute stamp b ∷ es) = stamp_after (Some stamp) es
 stamp_after last (Close ∷ es) = stamp_after last es
 
 -- the stamps of its bars
@@ -112,21 +111,21 @@ term_in [] = []
 term_in (x ∷ xs) = (x ∷ xs) ∷ []
 
 -- the bars of each term that ends in a list of events, after a last stamp and the bars of an open term
-unfoldable pub ended_terms : Hours → ℕ → LastStamp → List (ℕ × Bar) → List Event → List (List (ℕ × Bar))
+unfoldable pub ended_terms : Hours → ℕ → Option ℕ → List (ℕ × Bar) → List Event → List (List (ℕ × Bar))
 ended_terms h m last bars [] = []
 ended_terms h m last bars (Minute s b ∷ es) =
-    cond (in_term_of h m last s) (ended_terms h m (At s) (bars ++ ((s, b) ∷ [])) es) (term_in bars ++ ended_terms h m (At s) ((s, b) ∷ []) es)
+    cond (in_term_of h m last s) (ended_terms h m (Some s) (bars ++ ((s, b) ∷ [])) es) (term_in bars ++ ended_terms h m (Some s) ((s, b) ∷ []) es)
 ended_terms h m last bars (Close ∷ es) = term_in bars ++ ended_terms h m last [] es
 
 -- and the bars of the term that is left open
-unfoldable pub open_term : Hours → ℕ → LastStamp → List (ℕ × Bar) → List Event → List (ℕ × Bar)
+unfoldable pub open_term : Hours → ℕ → Option ℕ → List (ℕ × Bar) → List Event → List (ℕ × Bar)
 open_term h m last bars [] = bars
-open_term h m last bars (Minute s b ∷ es) = open_term h m (At s) (cond (in_term_of h m last s) (bars ++ ((s, b) ∷ [])) ((s, b) ∷ [])) es
+open_term h m last bars (Minute s b ∷ es) = open_term h m (Some s) (cond (in_term_of h m last s) (bars ++ ((s, b) ∷ [])) ((s, b) ∷ [])) es
 open_term h m last bars (Close ∷ es) = open_term h m last [] es
 
-abbrev pub open_of : List (ℕ × Bar) → OpenBar
-open_of [] = Nothing
-open_of (x ∷ xs) = Begun (term_bar (x ∷ xs))
+abbrev pub open_of : List (ℕ × Bar) → Option Bar
+open_of [] = None
+open_of (x ∷ xs) = Some (term_bar (x ∷ xs))
 
 -- any two of some bars lie in one and the same term, by their stamps (List.Memᴰ: is one of)
 abbrev pub OneTerm : Hours → ℕ → List (ℕ × Bar) → Type 0
@@ -134,6 +133,6 @@ OneTerm h m bars = (x y : ℕ × Bar) → Memᴰ x bars → Memᴰ y bars → te
 
 -- for every list of events: each ended term bar and the open one is the bar of its term's bars, which lie in one term; a close can cut a term in two
 pub record TermBars : Type 0 where
-  pub ended : (h : Hours) (m : ℕ) (es : List Event) → ended_of h m nothing_yet es ≡ map term_bar (ended_terms h m Never [] es)
-  pub left : (h : Hours) (m : ℕ) (es : List Event) → (carried_of h m nothing_yet es).pending ≡ open_of (open_term h m Never [] es)
-  pub one-term : (h : Hours) (m : ℕ) (es : List Event) (bars : List (ℕ × Bar)) → Memᴰ bars (open_term h m Never [] es ∷ ended_terms h m Never [] es) → OneTerm h m bars
+  pub ended : (h : Hours) (m : ℕ) (es : List Event) → ended_of h m nothing_yet es ≡ map term_bar (ended_terms h m None [] es)
+  pub left : (h : Hours) (m : ℕ) (es : List Event) → (carried_of h m nothing_yet es).pending ≡ open_of (open_term h m None [] es)
+  pub one-term : (h : Hours) (m : ℕ) (es : List Event) (bars : List (ℕ × Bar)) → Memᴰ bars (open_term h m None [] es ∷ ended_terms h m None [] es) → OneTerm h m bars

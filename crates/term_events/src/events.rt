@@ -2,36 +2,22 @@
 ghost use Rattle.std.specs.Prelude.{◌≡◌, ltb, length, drop};
 ghost use Rattle.measures.specs.Bar.{bars_of};
 ghost use Rattle.term_events.specs.Events.{joined_bar, step_by, open_bars};
-ghost use Rattle.term_events.specs.EventSteps.{end_after, next_end, inside_by, some_in, put_ended, pass_of};
+ghost use Rattle.term_events.specs.EventSteps.{end_after, next_end, inside_by, put_ended, pass_of};
 
 use measures::{Bar, max, min};
 use trading_hours::{Hours, hours};
 
-// The stamp of the last bar taken in.
-#[derive(Clone, Copy)]
-pub enum LastStamp {
-    Never,
-    At(u32),
-}
-
-// The open term bar.
-#[derive(Clone, Copy)]
-pub enum OpenBar {
-    Nothing,
-    Begun(Bar),
-}
-
-// What is carried from one bar to the next.
+// What is carried from one bar to the next: the stamp of the last bar taken in, and the open term bar.
 #[derive(Clone, Copy)]
 pub struct Carried {
-    pub last: LastStamp,
-    pub pending: OpenBar,
+    pub last: Option<u32>,
+    pub pending: Option<Bar>,
 }
 
 // The term bar that a bar ended, if any, and what is carried on.
 #[derive(Clone, Copy)]
 struct Step {
-    pub ended: OpenBar,
+    pub ended: Option<Bar>,
     pub carried: Carried,
 }
 
@@ -48,12 +34,12 @@ fn join(a: Bar, b: Bar) -> Bar
 }
 
 // The end of the term of the last stamp.
-pub(crate) fn end_after(h: Hours, m: u32, last: LastStamp) -> usize
+pub(crate) fn end_after(h: Hours, m: u32, last: Option<u32>) -> usize
     ensures { result ≡ end_after h m last }
 {
     match last {
-        LastStamp::Never => 0,
-        LastStamp::At(s) => hours::end_of(h, m, s),
+        None => 0,
+        Some(s) => hours::end_of(h, m, s),
     }
 }
 
@@ -71,63 +57,39 @@ pub(crate) fn next_end(h: Hours, m: u32, end: usize, stamp: u32) -> usize
 pub(crate) fn is_inside(h: Hours, end: usize, stamp: u32) -> bool
     ensures { result ≡ inside_by h end stamp }
 {
-    if (stamp as usize) < end {
-        return true;
-    }
-    hours::in_hours(h, stamp)
+    (stamp as usize) < end || hours::in_hours(h, stamp)
 }
 
 // One bar, which is of the open term if its stamp lies before this end.
 fn step_by(c: Carried, end: usize, stamp: u32, b: Bar) -> Step
     ensures { result ≡ step_by (ltb stamp end) c stamp b }
 {
-    let pending = c.pending;
-    match pending {
-        OpenBar::Nothing => Step {
-            ended: OpenBar::Nothing,
+    let last = Some(stamp);
+    match c.pending {
+        Some(a) if (stamp as usize) < end => Step {
+            ended: None,
             carried: Carried {
-                last: LastStamp::At(stamp),
-                pending: OpenBar::Begun(b),
+                last,
+                pending: Some(join(a, b)),
             },
         },
-        OpenBar::Begun(a) => {
-            if (stamp as usize) < end {
-                return Step {
-                    ended: OpenBar::Nothing,
-                    carried: Carried {
-                        last: LastStamp::At(stamp),
-                        pending: OpenBar::Begun(join(a, b)),
-                    },
-                };
-            }
-            Step {
-                ended: OpenBar::Begun(a),
-                carried: Carried {
-                    last: LastStamp::At(stamp),
-                    pending: OpenBar::Begun(b),
-                },
-            }
-        }
-    }
-}
-
-// Whether a term bar ended.
-fn has_ended(ended: OpenBar) -> bool
-    ensures { result ≡ some_in ended }
-{
-    match ended {
-        OpenBar::Nothing => false,
-        OpenBar::Begun(_) => true,
+        ended => Step {
+            ended,
+            carried: Carried {
+                last,
+                pending: Some(b),
+            },
+        },
     }
 }
 
 // The prices of an ended term bar go to a place of a run, if there is room; the answer is how many bars ended.
-fn put_ended(ended: OpenBar, run: &mut [f64], place: usize) -> usize
+fn put_ended(ended: Option<Bar>, run: &mut [f64], place: usize) -> usize
     ensures { (result ≡ length (open_bars ended)) × (run.new ≡ put_ended run.old place ended) }
 {
     match ended {
-        OpenBar::Nothing => 0,
-        OpenBar::Begun(b) => {
+        None => 0,
+        Some(b) => {
             measures::put_bar(b, run, place);
             1
         }
@@ -157,17 +119,14 @@ pub fn pass(
         (result ≡ left.0) × (run.new ≡ left.1) }
 {
     let room = run.len() / 4;
-    let before = c.last;
     let mut carried = c;
-    let mut end = end_after(h, m, before);
-    let mut k = from;
+    let mut end = end_after(h, m, c.last);
     let mut count = 0usize;
-    while k < stamps.len() {
+    for k in from..stamps.len() {
         let stamp = stamps[k];
         let bar = measures::bar_or_none(prices, k);
         let next = step_by(carried, end, stamp, bar);
-        let ended = next.ended;
-        if has_ended(ended) & (count == room) {
+        if next.ended.is_some() && count == room {
             return Passed {
                 at: k,
                 count,
@@ -175,12 +134,11 @@ pub fn pass(
             };
         }
         end = next_end(h, m, end, stamp);
-        count += put_ended(ended, run, count);
+        count += put_ended(next.ended, run, count);
         carried = next.carried;
-        k += 1;
     }
     Passed {
-        at: k,
+        at: from.max(stamps.len()),
         count,
         carried,
     }

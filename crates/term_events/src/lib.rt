@@ -7,4 +7,4 @@
 pub mod events;
 pub mod verdicts;
 
-pub use events::{Carried, LastStamp, OpenBar, Passed, pass};
+pub use events::{Carried, Passed, pass};

@@ -1,25 +1,24 @@
-// Why a making, a run or a close is refused.
+// Why a making, a run or a close is refused. Hours, term length and what is carried come one by one, as callers hand them to the public functions: a
+// struct for the others alone would be made and taken apart again in each.
 ghost use Rattle.std.specs.Prelude.{◌≡◌};
 ghost use Rattle.recognisers.specs.Refusal.{first_true};
 ghost use Rattle.term_events.specs.Verdicts.{sound_carried, valid_layer, above, stamps_tried, make_verdict, run_verdict, close_verdict};
 ghost use Rattle.term_events.specs.EventSteps.{end_after, EndKnown};
 
 use crate::events;
-use crate::events::{Carried, LastStamp, OpenBar};
+use crate::events::Carried;
+use measures::Bar;
 use recognisers::box_verdicts::checked;
-use recognisers::{Refusal, Thresholds, Verdict};
+use recognisers::{Refusal, Thresholds};
 use trading_hours::{Hours, hours};
 
 // Whether a kept stamp lies in the hours and an open term bar has a stamp.
-fn sound(h: Hours, last: LastStamp, pending: OpenBar) -> bool
+fn sound(h: Hours, last: Option<u32>, pending: Option<Bar>) -> bool
     ensures { result ≡ sound_carried h last pending }
 {
     match last {
-        LastStamp::At(s) => hours::in_hours(h, s),
-        LastStamp::Never => match pending {
-            OpenBar::Nothing => true,
-            OpenBar::Begun(_) => false,
-        },
+        Some(s) => hours::in_hours(h, s),
+        None => pending.is_none(),
     }
 }
 
@@ -27,50 +26,44 @@ fn sound(h: Hours, last: LastStamp, pending: OpenBar) -> bool
 fn layer_valid(h: Hours, m: u32, c: Carried) -> bool
     ensures { result ≡ valid_layer h m c }
 {
-    let last = c.last;
-    let pending = c.pending;
-    hours::hours_valid(h) & hours::term_length(m) & sound(h, last, pending)
+    hours::hours_valid(h) && hours::term_length(m) && sound(h, c.last, c.pending)
 }
 
 // The first of the refusals 3 and 12 that is true of a making.
 pub fn make_verdict(t: Thresholds, h: Hours, m: u32) -> Result<(), Refusal>
     ensures { result ≡ make_verdict t h m }
 {
-    let valid = t.is_valid();
-    if !valid {
+    if !t.is_valid() {
         return Err(Refusal::BadThreshold);
     }
     let none = Carried {
-        last: LastStamp::Never,
-        pending: OpenBar::Nothing,
+        last: None,
+        pending: None,
     };
-    let whole = layer_valid(h, m, none);
-    if !whole {
+    if !layer_valid(h, m, none) {
         return Err(Refusal::BadLayer);
     }
     Ok(())
 }
 
 // Whether a stamp is above the last one.
-fn is_above(last: LastStamp, stamp: u32) -> bool
+fn is_above(last: Option<u32>, stamp: u32) -> bool
     ensures { result ≡ above last stamp }
 {
     match last {
-        LastStamp::Never => true,
-        LastStamp::At(s) => s < stamp,
+        None => true,
+        Some(s) => s < stamp,
     }
 }
 
 // The first of the refusals 10 and 11 that is true of stamps, bar by bar.
-fn stamps_verdict(h: Hours, m: u32, before: LastStamp, stamps: &[u32]) -> Result<(), Refusal>
+fn stamps_verdict(h: Hours, m: u32, before: Option<u32>, stamps: &[u32]) -> Result<(), Refusal>
     requires { EndKnown h m before (end_after h m before) }
     ensures { result ≡ first_true (stamps_tried h before stamps.now) }
 {
     let mut last = before;
     let mut end = events::end_after(h, m, before);
-    let mut i = 0usize;
-    while i < stamps.len() {
-        let stamp = stamps[i];
+    for &stamp in stamps {
         if !is_above(last, stamp) {
             return Err(Refusal::LateStamp);
         }
@@ -78,8 +71,7 @@ fn stamps_verdict(h: Hours, m: u32, before: LastStamp, stamps: &[u32]) -> Result
             return Err(Refusal::OutsideHours);
         }
         end = events::next_end(h, m, end, stamp);
-        last = LastStamp::At(stamp);
-        i += 1;
+        last = Some(stamp);
     }
     Ok(())
 }
@@ -99,17 +91,19 @@ pub fn run_verdict(
 {
     let layer = layer_valid(h, m, c);
     let one_each = stamps.len() == prices / 4;
-    match checked(t, layer, n, prices, one_each, true, sheet) {
-        Err(why) => Err(why),
-        Ok(()) => {
-            let last = c.last;
-            stamps_verdict(h, m, last, stamps)
-        }
-    }
+    checked(t, layer, n, prices, one_each, true, sheet)?;
+    stamps_verdict(h, m, c.last, stamps)
 }
 
 // The first of the refusals 3, 12, 5 and 6 that is true of a close.
-pub fn close_verdict(t: Thresholds, h: Hours, m: u32, c: Carried, n: u32, sheet: usize) -> Result<(), Refusal>
+pub fn close_verdict(
+    t: Thresholds,
+    h: Hours,
+    m: u32,
+    c: Carried,
+    n: u32,
+    sheet: usize,
+) -> Result<(), Refusal>
     ensures { result ≡ close_verdict t h m c n sheet }
 {
     let layer = layer_valid(h, m, c);

@@ -1,7 +1,8 @@
 -- One call to the layer that events left, against the same call to the plain list of events: its verdict, the layer after it and the rows that
 -- it gives. Assumes nothing.
-use Rattle.std.specs.Prelude.{Err, Ok}
+use Rattle.std.specs.Prelude.{None, Err, Ok}
 use Rattle.answers.specs.Refusal.{Verdict}
+use Rattle.std.specs.Result.{result_unwrap_or}
 use Prim.Native.Nat.{ℕ, ◌+◌, ◌*◌, ◌≤◌, ◌<◌}
 use mathlib.Core.Path.{◌≡◌, refl, ap, sym, ◌∙◌}
 use mathlib.Core.List.{List, [], ◌∷◌, ◌++◌}
@@ -22,12 +23,10 @@ use Rattle.measures.proofs.PriceLaws.{length-prices}
 use Rattle.bar_box.proofs.FeedSteps.{fits, count-after, kept-after}
 use Rattle.trading_hours.specs.declared.hours.Hours.{Hours}
 use Rattle.term_events.specs.declared.events.Carried.{Carried}
-use Rattle.term_events.specs.declared.events.LastStamp.TheVariants.{Never}
 use Rattle.terms.specs.declared.layers.Layer.{Layer}
-use Rattle.terms.specs.declared.layers.Taken.{Taken}
 use Rattle.term_events.specs.Events.{Event, Close, nothing_yet, ended_of, carried_of, stamps_in, minutes_of}
 use Rattle.term_events.specs.Verdicts.{sound_carried, valid_layer, stamps_tried}
-use Rattle.terms.specs.Layer.{layer_with, ended_in, after_events, taken_of, taken_sheet, ran_of, ran_sheet, closed_of, closed_sheet}
+use Rattle.terms.specs.Layer.{Taken, rows_by, rows_answer, layer_with, ended_in, after_events, taken_of, taken_sheet, ran_of, ran_sheet, closed_of, closed_sheet}
 use Rattle.terms.specs.History.{Call, Run, Shut, lent_sheet, events_in, verdict_by, verdict_on, appended, called, sheet_after, rows_of_call, Rising}
 use mathlib.Core.Bool.{true, ◌&&◌, and-true}
 use Rattle.trading_hours.specs.Hours.{valid_hours, in_hours, term_length}
@@ -86,6 +85,14 @@ rows_fit l x = rw (called_is l x) (go (verdict_at l x) refl)
         (omega (arith, f.few), omega (arith, f.room))
     go (Err r) e = (omega arith, omega arith)
 
+-- they are what it answers, none of a refused call
+pub rows-told : (l : Layer) (x : Call) → result_unwrap_or (rows_answer (called l x)) 0 ≡ (called l x).rows
+rows-told l x = rw (called_is l x) (go (verdict_at l x))
+  where
+    go : (v : Verdict) → result_unwrap_or (rows_by v (leaves v 0 (length (ended_in l (events_in x))))) 0 ≡ leaves v 0 (length (ended_in l (events_in x)))
+    go (Ok tt) = refl
+    go (Err r) = refl
+
 -- of an accepted call the layer keeps the rules, and no refusal stops the stamps
 call-stamps : (t : Thresholds) (h : Hours) (m : ℕ) (c : Carried) (n : ℕ) (x : Call) → verdict_by t (valid_layer h m c) h c.last n x ≡ Ok tt
     → LayerMeets h m c × (first_true (stamps_tried h c.last (stamps_in (events_in x))) ≡ Ok tt)
@@ -112,7 +119,7 @@ module _ (l : Layer) (start : NoBars l.inner) where
 
   -- no refusal stops the stamps of the events; if there is one, the hours and the term length keep the rules
   unfoldable pub Kept : List Event → Type 0
-  Kept es = (first_true (stamps_tried l.hours Never (stamps_in es)) ≡ Ok tt) × (1 ≤ length (stamps_in es) → TermRule l.hours l.minutes)
+  Kept es = (first_true (stamps_tried l.hours None (stamps_in es)) ≡ Ok tt) × (1 ≤ length (stamps_in es) → TermRule l.hours l.minutes)
 
   -- so 12 can't be true of the layer for its stamp or an open term bar, and its verdict on a call is that of the events
   verdict-at : (es : List Event) (x : Call) → Kept es → verdict_at (layer_of es) x ≡ on es x
@@ -134,7 +141,7 @@ module _ (l : Layer) (start : NoBars l.inner) where
   unfolding Kept
   kept_by (Ok tt) es x e k =
       let met = call-stamps _ _ _ (carried es) _ x e in (
-        stamps-append l.hours Never es (events_in x) k.0 (rw (← carried-last l.hours l.minutes nothing_yet es) met.1),
+        stamps-append l.hours None es (events_in x) k.0 (rw (← carried-last l.hours l.minutes nothing_yet es) met.1),
         λ some. term-rule l.hours l.minutes (term-some _ met.0.minutes) met.0.hours,
       )
   kept_by (Err r) es x e k = k
@@ -147,8 +154,8 @@ module _ (l : Layer) (start : NoBars l.inner) where
   unfolding Kept
   kept-rising es k =
       let ss = stamps_in es in
-      let inside : (i : ℕ) → i < length ss → in_hours l.hours (get_or ss i 0) ≡ true = λ i within. (stamps-at l.hours Never ss i within k.0).1 in
-      let up : (i j : ℕ) → i < j → j < length ss → get_or ss i 0 < get_or ss j 0 = λ i j less within. stamps-rise l.hours Never ss i j less within k.0 in
+      let inside : (i : ℕ) → i < length ss → in_hours l.hours (get_or ss i 0) ≡ true = λ i within. (stamps-at l.hours None ss i within k.0).1 in
+      let up : (i j : ℕ) → i < j → j < length ss → get_or ss i 0 < get_or ss j 0 = λ i j less within. stamps-rise l.hours None ss i j less within k.0 in
       record {
         inside = inside;
         above = up;

@@ -44,7 +44,7 @@ module _ (t : Thresholds) (n prices sheet : ℕ) (e : feed_verdict t n prices sh
 -- ---- one feed of the first n bars of a run, on the sheet from a row on
 
 module _ (b : BarBox) (ps : List Float) (n : ℕ) (s : List ℕ) (row : ℕ) (e : feed_verdict b.thresholds b.count (4 * n) (row_bytes * n) ≡ Ok tt) (enough : 4 * n ≤ length ps) (room : row_bytes * (row + n) ≤ length s) where
-  front-accepted : feed_verdict b.thresholds b.count (length (take (4 * n) ps)) (length (rest_of s (row_bytes * row))) ≡ Ok tt
+  pub front-accepted : feed_verdict b.thresholds b.count (length (take (4 * n) ps)) (length (rest_of s (row_bytes * row))) ≡ Ok tt
   front-accepted =
       let size = length-take-le (4 * n) ps enough in
       let rest = length_rest s (row_bytes * row) in

@@ -1,11 +1,11 @@
 -- The parts of a run whose feed is accepted, one after the other: each ends term bars, which are fed behind those before them. Assumes nothing.
 use Rattle.std.specs.Prelude.{Ok}
-use Prim.Native.Nat.{ℕ, ◌+◌, ◌-◌, ◌*◌, ◌/◌, ◌≤◌, ◌<◌}
+use Prim.Native.Nat.{ℕ, ◌+◌, ◌*◌, ◌/◌, ◌≤◌, ◌<◌}
 use mathlib.Core.Path.{◌≡◌, ap, sym, ◌∙◌}
-use mathlib.Core.List.{List, [], ◌++◌}
+use mathlib.Core.List.{List, ◌++◌}
 use native.Mathlib.Omega.{arith}
 use lib.ListN.{length, take, drop, length-append, length-take, length-drop}
-use lib.Seq.{drop-drop, take_at, take_all}
+use lib.Seq.{take_at, take_all}
 use lib.Ieee.{Float}
 use Rattle.measures.specs.Bar.{Bar, bars_of, prices_of}
 use Rattle.measures.proofs.RunLaws.{length-bars}
@@ -21,18 +21,21 @@ use Rattle.term_events.specs.Events.{Event, ended_of, carried_of, minutes_of}
 use Rattle.term_events.specs.EventSteps.{Ready, end_after, pass_of}
 use Rattle.term_events.proofs.EventLaws.{ended-few, length-minutes, ended-more, carried-more}
 use Rattle.term_events.proofs.StepLaws.{PassedBy, minutes-drop, ready-after, passed-by}
+use Rattle.box_record.specs.declared.boxes.BarBox.{BarBox}
+use Rattle.terms.specs.declared.layers.Layer.{Layer}
+use Rattle.terms.specs.Layer.{layer_with}
 use Rattle.terms.proofs.FeedLaws.{some-accepted, some-room}
 
-module _ (h : Hours) (m : ℕ) (c : Carried) (ps : List Float) (ss : List ℕ) (from : ℕ) where
-  -- the events from one on, and the term bars that end and what is carried on up to another
-  abbrev pub events_from : List Event
-  events_from = drop from (minutes_of ss (bars_of ps))
+module _ (h : Hours) (m : ℕ) (c : Carried) (ps : List Float) (ss : List ℕ) where
+  -- the events, and the term bars that end and what is carried on up to one
+  abbrev pub events : List Event
+  events = minutes_of ss (bars_of ps)
 
   abbrev pub ended_to : ℕ → List Bar
-  ended_to done = ended_of h m c (take (done - from) events_from)
+  ended_to done = ended_of h m c (take done events)
 
   abbrev pub carried_to : ℕ → Carried
-  carried_to done = carried_of h m c (take (done - from) events_from)
+  carried_to done = carried_of h m c (take done events)
 
   -- what is known of the next part: it passes some bars, and its term bars are accepted behind the old ones
   pub record PartFits (t : Thresholds) (n sheet done : ℕ) (f : Passed) (run : List Float) : Type 0 where
@@ -46,62 +49,51 @@ module _ (h : Hours) (m : ℕ) (c : Carried) (ps : List Float) (ss : List ℕ) (
     pub ended : ended_to f.at ≡ ended_to done ++ bars_of (take (4 * f.count) run)
     pub carried : f.carried ≡ carried_to f.at
 
-  -- what passing from the next bar on leaves
-  passed-part : Ready h m c (drop from ss) → length ss ≡ length (bars_of ps) → (done : ℕ) → from ≤ done → done < length ss → (run : List Float)
-      → PassedBy h m (carried_to done) (drop (done - from) events_from) done 0 run (pass_of h m (bars_of ps) (carried_to done) (end_after h m (carried_to done).last) done 0 run (drop done ss))
-  passed-part ready each done past less run =
-      let bars = bars_of ps in
-      let k = done - from in
-      let sum_is : from + k ≡ done = omega arith in
-      let sizes : length (drop from ss) ≡ length (drop from bars) = rw (length-drop from ss, length-drop from bars, each) in
-      let here : Ready h m (carried_to done) (drop done ss) = rw (← minutes-drop from ss bars, drop-drop k from ss, sum_is) at (ready-after h m c (drop from ss) (drop from bars) k sizes ready) in
-      let later : minutes_of (drop done ss) (drop done bars) ≡ drop k events_from = sym (drop-drop k from (minutes_of ss bars) ∙ rw sum_is (minutes-drop done ss bars)) in
-      rw later at (passed-by h m bars (carried_to done) done 0 run (drop done ss) here (rw length-drop (omega arith)) (omega arith))
+  module _ (each : length ss ≡ length (bars_of ps)) where
+    -- what passing from the next bar on leaves
+    passed-part : Ready h m c ss → (done : ℕ) → done < length ss → (run : List Float)
+        → PassedBy h m (carried_to done) (drop done events) done 0 run (pass_of h m (bars_of ps) (carried_to done) (end_after h m (carried_to done).last) done 0 run (drop done ss))
+    passed-part ready done less run =
+        rw (← minutes-drop done ss (bars_of ps)) at (passed-by h m (bars_of ps) (carried_to done) done 0 run (drop done ss) (ready-after h m c ss (bars_of ps) done each ready) (rw length-drop (omega arith)) (omega arith))
 
-  part_of : length ss ≡ length (bars_of ps) → (t : Thresholds) (n sheet : ℕ) → feed_verdict t n (length ps) sheet ≡ Ok tt → (done : ℕ) → from ≤ done → done < length ss → (run : List Float) → 4 ≤ length run
-      → (r : Passed × List Float) → PassedBy h m (carried_to done) (drop (done - from) events_from) done 0 run r → PartFits t n sheet done r.0 r.1
-  part_of each t n sheet e done past less run some r by =
-      let es = events_from in
-      let k = done - from in
-      let old = ended_to done in
-      let p = by.passed in
-      let new = ended_of h m (carried_to done) (take p (drop k es)) in
-      let size = length-minutes ss (bars_of ps) each in
-      let left = length-drop from (minutes_of ss (bars_of ps)) in
-      let rest = length-drop k es in
-      let to : r.0.at - from ≡ k + p = omega (arith, by.at) in
-      let both-ended : ended_to r.0.at ≡ old ++ new = rw to (ended-more h m c es k p) in
-      let count : r.0.count ≡ length new = omega (arith, by.ended) in
-      let four = length-prices new in
-      let front : take (4 * r.0.count) r.1 ≡ prices_of new = rw by.prices (take_at (prices_of new) (drop (0 + length (prices_of new)) run) (4 * r.0.count) (omega arith)) in
-      let bars-are : bars_of (take (4 * r.0.count) r.1) ≡ new = ap bars_of front ∙ bars-prices new in
-      let sum : length old + r.0.count ≤ length ps / 4 = omega (arith, length-append old new, ap length both-ended, ended-few h m c (take (r.0.at - from) es), length-take (r.0.at - from) es, length-bars ps) in
-      record {
-        some = omega (arith, by.at, by.some (omega arith) (omega arith));
-        within = omega (arith, by.at, by.within);
-        enough = rw (by.prices, length-overlay run 0 (prices_of new) (omega (arith, by.few))) (omega (arith, by.few));
-        few = omega (arith, (fits _ _ _ _ e).few);
-        accepted = some-accepted _ _ _ _ e (length old) r.0.count sum;
-        room = some-room _ _ _ _ e (length old) r.0.count sum;
-        count = rw bars-are (sym count);
-        ended = rw bars-are both-ended;
-        carried = by.carried ∙ sym (rw to (carried-more h m c es k p));
-      }
+    part_of : (t : Thresholds) (n sheet : ℕ) → feed_verdict t n (length ps) sheet ≡ Ok tt → (done : ℕ) → done < length ss → (run : List Float) → 4 ≤ length run
+        → (r : Passed × List Float) → PassedBy h m (carried_to done) (drop done events) done 0 run r → PartFits t n sheet done r.0 r.1
+    part_of t n sheet e done less run some r by =
+        let old = ended_to done in
+        let p = by.passed in
+        let new = ended_of h m (carried_to done) (take p (drop done events)) in
+        let size = length-minutes ss (bars_of ps) each in
+        let rest = length-drop done events in
+        let both-ended : ended_to r.0.at ≡ old ++ new = rw by.at (ended-more h m c events done p) in
+        let count : r.0.count ≡ length new = omega (arith, by.ended) in
+        let four = length-prices new in
+        let front : take (4 * r.0.count) r.1 ≡ prices_of new = rw by.prices (take_at (prices_of new) (drop (0 + length (prices_of new)) run) (4 * r.0.count) (omega arith)) in
+        let bars-are : bars_of (take (4 * r.0.count) r.1) ≡ new = ap bars_of front ∙ bars-prices new in
+        let sum : length old + r.0.count ≤ length ps / 4 = omega (arith, length-append old new, ap length both-ended, ended-few h m c (take r.0.at events), length-take r.0.at events, length-bars ps) in
+        record {
+          some = omega (arith, by.at, by.some (omega arith) (omega arith));
+          within = omega (arith, by.at, by.within);
+          enough = rw (by.prices, length-overlay run 0 (prices_of new) (omega (arith, by.few))) (omega (arith, by.few));
+          few = omega (arith, (fits _ _ _ _ e).few);
+          accepted = some-accepted _ _ _ _ e (length old) r.0.count sum;
+          room = some-room _ _ _ _ e (length old) r.0.count sum;
+          count = rw bars-are (sym count);
+          ended = rw bars-are both-ended;
+          carried = by.carried ∙ sym (rw by.at (carried-more h m c events done p));
+        }
 
-  -- as the code has it
-  pub part-fits : Ready h m c (drop from ss) → length ss ≡ length (bars_of ps) → (t : Thresholds) (n sheet : ℕ) → feed_verdict t n (length ps) sheet ≡ Ok tt
-      → (done : ℕ) → from ≤ done → done < length ss → (run : List Float) → 4 ≤ length run → (carried : Carried) → carried ≡ carried_to done → (f : Passed) (left : List Float)
-      → let r = pass_of h m (bars_of ps) carried (end_after h m carried.last) done 0 run (drop done ss) in (f ≡ r.0) × (left ≡ r.1) → PartFits t n sheet done f left
-  part-fits ready each t n sheet e done past less run some carried is f left made = rw (made.0, made.1, is) (part_of each t n sheet e done past less run some _ (passed-part ready each done past less run))
+    -- as the code has it, which takes hours, term length and what is carried from the layer
+    pub part-fits : Ready h m c ss → (t : Thresholds) (n sheet : ℕ) → feed_verdict t n (length ps) sheet ≡ Ok tt
+        → (done : ℕ) → done < length ss → (run : List Float) → 4 ≤ length run → (now : Layer) (b : BarBox) → now ≡ layer_with h m (carried_to done) b → (f : Passed) (left : List Float)
+        → let r = pass_of now.hours now.minutes (bars_of ps) now.carried (end_after now.hours now.minutes now.carried.last) done 0 run (drop done ss) in (f ≡ r.0) × (left ≡ r.1)
+        → PartFits t n sheet done f left
+    part-fits ready t n sheet e done less run some now b is f left made = rw (made.0, made.1, is) (part_of t n sheet e done less run some _ (passed-part ready done less run))
 
-  -- before the first part, and past the last
-  pub none-ended : ended_to from ≡ []
-  unfolding ended_of
-  none-ended = let none : from - from ≡ 0 = omega arith in rw none
+    -- past the last part
+    pub all-passed : (done : ℕ) → length ss ≤ done → take done events ≡ events
+    all-passed done past = take_all done events (omega (arith, length-minutes ss (bars_of ps) each))
 
-  pub none-carried : carried_to from ≡ c
-  unfolding carried_of
-  none-carried = let none : from - from ≡ 0 = omega arith in rw none
-
-  pub all-passed : length ss ≡ length (bars_of ps) → (done : ℕ) → length ss ≤ done → take (done - from) events_from ≡ events_from
-  all-passed each done past = take_all (done - from) events_from (omega (arith, length-drop from (minutes_of ss (bars_of ps)), length-minutes ss (bars_of ps) each))
+-- the layer with another box and another bar carried
+pub layer-next : (h : Hours) (m : ℕ) (c : Carried) (b : BarBox) (now : Layer) → now ≡ layer_with h m c b → {x y : BarBox} {p q : Carried} → x ≡ y → p ≡ q
+    → layer_with now.hours now.minutes p x ≡ layer_with h m q y
+layer-next h m c b now is box carried = rw (is, box, carried)

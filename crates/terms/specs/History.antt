@@ -1,6 +1,6 @@
 -- 02, P6: what every list of calls leaves. The first part builds one plain list of events from what the accepted calls were lent; the second follows
 -- the calls by the definitions that the contracts cite; the third says how the two agree.
-use Rattle.std.specs.Prelude.{Ok}
+use Rattle.std.specs.Prelude.{Option, None, Ok}
 use Rattle.answers.specs.Refusal.{Verdict}
 use Rattle.std.specs.Prelude.{ℕ, ◌*◌, ◌≤◌, ◌<◌, ◌≡◌, ◌⊎◌, Bool, true, ◌&&◌, List, [], ◌∷◌, ◌++◌, length, get_or, take, Float}
 use Rattle.measures.specs.Bar.{Bar, bars_of}
@@ -12,11 +12,10 @@ use Rattle.bar_box.specs.History.{NoBars, one_feed, fed, rows_in, Holds as BoxHo
 use Rattle.trading_hours.specs.declared.hours.Hours.{Hours}
 use Rattle.trading_hours.specs.Hours.{most_windows, windows_of, valid_hours, in_hours, term_of, term_length}
 use Rattle.trading_hours.specs.TermRule.{Before}
-use Rattle.term_events.specs.declared.events.LastStamp.{LastStamp, TheVariants.Never}
-use Rattle.terms.specs.declared.layers.{Layer.Layer, Taken.Taken}
+use Rattle.terms.specs.declared.layers.Layer.{Layer}
 use Rattle.term_events.specs.Events.{Event, Close, nothing_yet, ended_of, carried_of, stamp_after, stamps_in, minutes_of}
 use Rattle.term_events.specs.Verdicts.{valid_layer, run_tried, close_tried}
-use Rattle.terms.specs.Layer.{made_of, ended_in, ran_of, ran_sheet, closed_of, closed_sheet}
+use Rattle.terms.specs.Layer.{Taken, made_of, ended_in, ran_of, ran_sheet, closed_of, closed_sheet}
 
 -- what a call is lent: a run prices, one stamp a bar, and a sheet; a close a sheet
 pub data Call : Type 0 where
@@ -34,7 +33,7 @@ events_in (Run prices stamps sheet) = minutes_of stamps (bars_of prices)
 events_in (Shut sheet) = Close ∷ []
 
 -- a call's verdict, by the thresholds, whether the layer keeps the rules, the hours, the last stamp, and the count of term bars
-abbrev pub verdict_by : Thresholds → Bool → Hours → LastStamp → ℕ → Call → Verdict
+abbrev pub verdict_by : Thresholds → Bool → Hours → Option ℕ → ℕ → Call → Verdict
 verdict_by t valid h last n (Run prices stamps sheet) = run_tried t valid h last n (length prices) stamps (length sheet)
 verdict_by t valid h last n (Shut sheet) = close_tried t valid n (length sheet)
 
@@ -42,7 +41,7 @@ module _ (t : Thresholds) (h : Hours) (m : ℕ) where
   -- a call is refused exactly as the list of refusals says, with the stamp of the last bar of the events and the count of the term bars that
   -- ended in them; 12 is for the hours and the term length alone
   abbrev pub verdict_on : List Event → Call → Verdict
-  verdict_on es x = verdict_by t (valid_hours h && term_length m) h (stamp_after Never es) (length (ended_of h m nothing_yet es)) x
+  verdict_on es x = verdict_by t (valid_hours h && term_length m) h (stamp_after None es) (length (ended_of h m nothing_yet es)) x
 
   -- it then leaves the list as it is; any other call appends its bars, or its close
   abbrev pub appended : List Event → Call → List Event
@@ -117,7 +116,7 @@ pub record Holds (l : Layer) (xs : List Call) (es : List Event) (ended : List Ba
   pub demand-3 : BoxHolds l.inner (one_feed ended sheet ∷ []) ended sheet
   -- (d) the kept stamp and the open term bar are those of the events; hours and term length stay
   pub same-carried : (layer_after l xs).carried ≡ carried_of l.hours l.minutes nothing_yet es
-  pub same-stamp : (layer_after l xs).carried.last ≡ stamp_after Never es
+  pub same-stamp : (layer_after l xs).carried.last ≡ stamp_after None es
   pub same-hours : (layer_after l xs).hours ≡ l.hours
   pub same-minutes : (layer_after l xs).minutes ≡ l.minutes
 

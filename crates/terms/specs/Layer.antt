@@ -1,9 +1,9 @@
 -- 02, P6: the layer, its making, a run and a close, for every layer that a caller can hand in.
-use Rattle.std.specs.Prelude.{Err, Ok}
 use Rattle.answers.specs.Refusal.{Verdict}
-use Rattle.std.specs.Prelude.{ℕ, List, [], ◌∷◌, length, Float}
+use Rattle.std.specs.Prelude.{ℕ, List, [], ◌∷◌, length, Float, Result, Ok, Err}
 use Rattle.measures.specs.Bar.{Bar, bars_of, prices_of}
 use Rattle.recognisers.specs.Threshold.{Thresholds, standard_set}
+use Rattle.answers.specs.declared.refusals.Refusal.{Refusal}
 use Rattle.recognisers.specs.Refusal.{leaves}
 use Rattle.box_record.specs.declared.boxes.BarBox.{BarBox}
 use Rattle.bar_box.specs.Box.{fresh_box, fed_of, sheet_of}
@@ -12,7 +12,7 @@ use Rattle.trading_hours.specs.Hours.{day_minutes, window_from, no_window, hours
 use Rattle.term_events.specs.declared.events.Carried.{Carried}
 use Rattle.term_events.specs.Events.{Event, Close, nothing_yet, ended_of, carried_of, minutes_of}
 use Rattle.term_events.specs.Verdicts.{make_verdict, run_verdict, close_verdict}
-use Rattle.terms.specs.declared.layers.{Layer.Layer, Taken.Taken}
+use Rattle.terms.specs.declared.layers.Layer.{Layer}
 
 -- ---- a fresh layer
 
@@ -28,7 +28,12 @@ whole_day = hours_with (window_from 0 day_minutes ∷ no_window ∷ no_window �
 
 -- ---- the calls
 
--- a call's verdict, how many rows it filled, and the layer after it
+-- the layer after a call, how many rows the call filled, and whether it is refused
+pub record Taken : Type 0 where
+  pub after : Layer
+  pub rows : ℕ
+  pub verdict : Verdict
+
 abbrev pub taken : Verdict → ℕ → Layer → Taken
 taken v rows l = record { after = l; rows = rows; verdict = v }
 
@@ -77,3 +82,17 @@ closed_of l sheet = taken_of (close_verdict_of l sheet) l (Close ∷ []) sheet
 
 unfoldable pub closed_sheet : Layer → List ℕ → List ℕ
 closed_sheet l sheet = taken_sheet (close_verdict_of l (length sheet)) l (Close ∷ []) sheet
+
+-- ---- what a run or a close answers: how many rows it filled, or the refusal alone
+
+abbrev pub rows_by : Verdict → ℕ → Result ℕ Refusal
+rows_by (Ok _) rows = Ok rows
+rows_by (Err r) rows = Err r
+
+abbrev pub rows_answer : Taken → Result ℕ Refusal
+rows_answer o = rows_by o.verdict o.rows
+
+-- whether it is refused
+abbrev pub verdict_in : Result ℕ Refusal → Verdict
+verdict_in (Ok rows) = Ok tt
+verdict_in (Err r) = Err r

@@ -1,15 +1,11 @@
 // The layer.
 ghost use Rattle.std.specs.Prelude.{◌≡◌};
-ghost use Rattle.recognisers.specs.Threshold.{standard_set};
-ghost use Rattle.recognisers.specs.Refusal.{leaves};
-ghost use Rattle.trading_hours.specs.Hours.{with_zeros};
-ghost use Rattle.term_events.specs.Events.{nothing_yet};
-ghost use Rattle.terms.specs.Layer.{layer_with, whole_day};
+ghost use Rattle.terms.specs.Layer.{whole_day, fresh_layer};
 
 use bar_box::BarBox;
-use recognisers::{Thresholds, Verdict};
-use term_events::{Carried, LastStamp, OpenBar};
-use trading_hours::{DayWindow, Hours, hours};
+use recognisers::{Refusal, Thresholds};
+use term_events::Carried;
+use trading_hours::{DayWindow, Hours};
 
 // The box of the term bars, the last stamp and the open term bar, the hours, and the term length in minutes.
 #[derive(Clone, Copy)]
@@ -20,16 +16,15 @@ pub struct Layer {
     pub minutes: u32,
 }
 
-// The layer after a call, how many rows the call filled, and whether it is refused.
+// A layer, and whether the making that gives it is refused. No `Result`: a refused making hands out a layer too, by rule (`made_of`).
 #[derive(Clone, Copy)]
-pub struct Taken {
+pub struct Made {
     pub after: Layer,
-    pub rows: usize,
     pub verdict: Result<(), Refusal>,
 }
 
 // One window from 0 to 1,440.
-fn whole_day() -> Hours
+pub(crate) fn whole_day() -> Hours
     ensures { result ≡ whole_day }
 {
     let all = DayWindow { from: 0, to: 1440 };
@@ -40,43 +35,15 @@ fn whole_day() -> Hours
     }
 }
 
-// The thresholds, hours and term length of a making by its verdict: those asked for, or those of a refused one.
-pub(crate) fn thresholds_by(v: Result<(), Refusal>, t: Thresholds) -> Thresholds
-    ensures { result ≡ leaves v standard_set t }
-{
-    match v {
-        Ok(()) => t,
-        Err(_) => Thresholds::standard(),
-    }
-}
-
-pub(crate) fn hours_by(v: Result<(), Refusal>, h: Hours) -> Hours
-    ensures { result ≡ leaves v whole_day (with_zeros h) }
-{
-    match v {
-        Ok(()) => hours::with_zeros(h),
-        Err(_) => whole_day(),
-    }
-}
-
-pub(crate) fn minutes_by(v: Result<(), Refusal>, m: u32) -> u32
-    ensures { result ≡ leaves v 5 m }
-{
-    match v {
-        Ok(()) => m,
-        Err(_) => 5,
-    }
-}
-
-// A layer over a box, to which nothing came yet.
-pub(crate) fn fresh(hours: Hours, minutes: u32, inner: BarBox) -> Layer
-    ensures { result ≡ layer_with hours minutes nothing_yet inner }
+// A layer to which nothing came yet.
+pub(crate) fn fresh(t: Thresholds, hours: Hours, minutes: u32) -> Layer
+    ensures { result ≡ fresh_layer t hours minutes }
 {
     Layer {
-        inner,
+        inner: bar_box::fresh(t),
         carried: Carried {
-            last: LastStamp::Never,
-            pending: OpenBar::Nothing,
+            last: None,
+            pending: None,
         },
         hours,
         minutes,

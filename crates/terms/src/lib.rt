@@ -8,5 +8,5 @@ pub mod calls;
 pub mod layers;
 
 pub use calls::{close, make, run};
-pub use layers::{Layer, Taken};
-pub use term_events::{Carried, LastStamp, OpenBar};
+pub use layers::{Layer, Made};
+pub use term_events::Carried;

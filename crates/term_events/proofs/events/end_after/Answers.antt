@@ -2,10 +2,10 @@
 use Rattle.term_events.specs.EventSteps.{end_after}
 use Rattle.term_events.proofs.events.end_after.Goals as goal
 
-pub returns-in-Never : goal.returns-in-Never
+pub returns-in-None : goal.returns-in-None
 unfolding end_after
-returns-in-Never c = simp c.in-Never.is
+returns-in-None c = simp c.in-None.is
 
-pub returns-in-At : goal.returns-in-At
+pub returns-in-Some : goal.returns-in-Some
 unfolding end_after
-returns-in-At c = simp (c.in-At.is, c.end_of.ensures)
+returns-in-Some c = simp (c.in-Some.is, c.end_of.ensures)

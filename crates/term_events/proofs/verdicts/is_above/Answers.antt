@@ -2,10 +2,10 @@
 use Rattle.term_events.specs.Verdicts.{above}
 use Rattle.term_events.proofs.verdicts.is_above.Goals as goal
 
-pub returns-in-Never : goal.returns-in-Never
+pub returns-in-None : goal.returns-in-None
 unfolding above
-returns-in-Never c = simp c.in-Never.is
+returns-in-None c = simp c.in-None.is
 
-pub returns-in-At : goal.returns-in-At
+pub returns-in-Some : goal.returns-in-Some
 unfolding above
-returns-in-At c = simp c.in-At.is
+returns-in-Some c = simp c.in-Some.is

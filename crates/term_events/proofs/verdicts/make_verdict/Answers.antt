@@ -4,21 +4,16 @@ use Rattle.recognisers.specs.Refusal.{first_true}
 use Rattle.term_events.specs.Verdicts.{make_verdict}
 use Rattle.term_events.proofs.verdicts.make_verdict.Goals as goal
 
-pub returns-then-not-valid : goal.returns-then-not-valid
+pub returns-then-not-is_valid : goal.returns-then-not-is_valid
 unfolding make_verdict first_true
-returns-then-not-valid c =
-    simp (sym c.is_valid-valid.ensures ∙ c.if-not-valid.true)
+returns-then-not-is_valid c = simp (sym c.is_valid.ensures ∙ c.if-not-is_valid.true)
 
-pub returns-then-not-whole : goal.returns-then-not-whole
+pub returns-then-not-layer_valid : goal.returns-then-not-layer_valid
 unfolding make_verdict first_true
-returns-then-not-whole c =
-    let valid = sym c.is_valid-valid.ensures ∙ c.if-not-valid.false in
-    let layer = sym c.layer_valid-whole.ensures ∙ c.if-not-whole.true in
-    simp (valid, layer)
+returns-then-not-layer_valid c =
+    simp (sym c.is_valid.ensures ∙ c.if-not-is_valid.false, sym c.layer_valid.ensures ∙ c.if-not-layer_valid.true)
 
 pub returns : goal.returns
 unfolding make_verdict first_true
 returns c =
-    let valid = sym c.is_valid-valid.ensures ∙ c.if-not-valid.false in
-    let layer = sym c.layer_valid-whole.ensures ∙ c.if-not-whole.false in
-    simp (valid, layer)
+    simp (sym c.is_valid.ensures ∙ c.if-not-is_valid.false, sym c.layer_valid.ensures ∙ c.if-not-layer_valid.false)

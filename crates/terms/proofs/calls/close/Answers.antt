@@ -1,22 +1,34 @@
--- The term bar that the close ends, by its verdict, is fed. Assumes nothing.
-use mathlib.Core.Path.{◌≡◌, ap, sym, ◌∙◌}
-use lib.ListN.{length}
-use Rattle.recognisers.specs.Refusal.{verdict_number}
-use Rattle.recognisers.specs.Number.{places}
-use Rattle.terms.proofs.TakeLaws.{closed_none, closed-one}
+-- A refused close leaves layer and sheet; of an accepted one the open bar is fed, if there is one. Assumes nothing.
+use mathlib.Core.Path.{sym, ◌∙◌}
+use Rattle.std.proofs.lemmas.Result.{err_from_is_err_and}
+use Rattle.measures.specs.Bar.{prices_of}
+use Rattle.bar_box.specs.Box.{fed_of}
+use Rattle.terms.proofs.TakeLaws.{shut-refused, shut-none, shut-accepted, shut-one}
 use Rattle.terms.proofs.calls.close.Goals as goal
 
-pub returns-in-Nothing : goal.returns-in-Nothing
-returns-in-Nothing c =
-    let l = c.args.l in
-    let all : length l.inner.bars ≡ places = c.well_formed.0.1.1.0.1.1.1.1.0.1.0.1 in
-    let told = c.close_verdict-verdict.ensures in
-    let is = closed_none l c.args.sheet.now all _ (sym told) (sym c.ended_by.ensures ∙ c.in-Nothing.is) in
-    record { answer = is.0; sheet = is.1; number = ap verdict_number told }
+pub returns-in_err-close_verdict : goal.returns-in_err-close_verdict
+returns-in_err-close_verdict c =
+    let p = err_from_is_err_and c.from_residual.result c.from_residual.ensures.1 in
+    let v = sym c.in_err-close_verdict.ensures in
+    let left = shut-refused c.args.l.now c.args.sheet.now _ v in
+    record { answer = rw (p.1, p.2, left.0); after = rw left.0; sheet = rw left.1; number = rw (p.1, p.2, v) }
 
-pub returns-in-Begun : goal.returns-in-Begun
-returns-in-Begun c =
-    let told = c.close_verdict-verdict.ensures in
-    let made = c.feed_one-fed.ensures in
-    let is = closed-one c.args.l c.args.sheet.now c.in-Begun.bar _ (sym told) (sym c.ended_by.ensures ∙ c.in-Begun.is) in
-    record { answer = rw made.0 is.0; sheet = made.1 ∙ is.1; number = ap verdict_number told }
+pub returns-in-None : goal.returns-in-None
+returns-in-None c =
+    let v = sym c.in_ok-close_verdict.ensures in
+    let none = sym c.take.ensures.value ∙ c.in-None.is in
+    let left = shut-none c.args.l.now c.args.sheet.now v c.if-prove.false none in
+    record { answer = rw left.0; after = rw (left.0, c.take.ensures.after, ← none); sheet = rw left.1; number = rw v }
+
+pub unwrap-requires : goal.unwrap-requires
+unfolding fed_of prices_of
+unwrap-requires c =
+    let v = sym c.in_ok-close_verdict.ensures in
+    rw (c.feed.ensures.verdict, shut-accepted c.args.l.now c.args.sheet.now v c.in-Some.bar (sym c.take.ensures.value ∙ c.in-Some.is))
+
+pub returns-in-Some : goal.returns-in-Some
+unfolding prices_of
+returns-in-Some c =
+    let v = sym c.in_ok-close_verdict.ensures in
+    let left = shut-one c.args.l.now c.args.sheet.now v c.in-Some.bar (sym c.take.ensures.value ∙ c.in-Some.is) in
+    record { answer = rw left.0; after = rw (left.0, c.take.ensures.after, c.feed.ensures.after); sheet = rw left.1 c.feed.ensures.sheet; number = rw v }

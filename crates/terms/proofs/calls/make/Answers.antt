@@ -1,13 +1,15 @@
--- By the verdict; the thresholds that are chosen are inside their limits. Assumes nothing.
-use mathlib.Core.Path.{ap, sym}
+-- By the verdict. Assumes nothing.
+use mathlib.Core.Path.{ap, sym, ◌∙◌}
 use Rattle.recognisers.specs.Refusal.{verdict_number}
-use Rattle.box_record.specs.declared.boxes.Outcome.{Outcome}
-use Rattle.terms.proofs.TakeLaws.{made-is}
+use Rattle.terms.proofs.TakeLaws.{made-good, made-bad}
 use Rattle.terms.proofs.calls.make.Goals as goal
 
-pub returns : goal.returns
-returns c =
-    let args = c.args in
-    let box = ap (λ (o : Outcome). o.after) c.make-made.ensures.answer in
-    let told = c.make_verdict-verdict.ensures in
-    record { answer = rw (c.fresh.ensures, c.hours_by.ensures, c.minutes_by.ensures, box, c.thresholds_by.ensures) (made-is args.t args.h args.m _ (sym told)); number = ap verdict_number told }
+pub returns-in-Ok : goal.returns-in-Ok
+returns-in-Ok c =
+    let v = sym c.make_verdict-verdict.ensures ∙ c.in-Ok.is in
+    rw (made-good c.args.t c.args.h c.args.m v) record { after = c.fresh-after.ensures ∙ rw c.with_zeros.ensures; verdict = c.in-Ok.is; number = ap verdict_number c.make_verdict-verdict.ensures }
+
+pub returns-in-Err : goal.returns-in-Err
+returns-in-Err c =
+    let v = sym c.make_verdict-verdict.ensures ∙ c.in-Err.is in
+    rw (made-bad c.args.t c.args.h c.args.m _ v) record { after = c.fresh-after-in-Err.ensures ∙ rw (c.standard.ensures, c.whole_day.ensures); verdict = c.in-Err.is; number = ap verdict_number c.make_verdict-verdict.ensures }

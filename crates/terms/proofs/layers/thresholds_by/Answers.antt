@@ -1,8 +1,0 @@
--- By the verdict. Assumes nothing.
-use Rattle.terms.proofs.layers.thresholds_by.Goals as goal
-
-pub returns-in-Ok : goal.returns-in-Ok
-returns-in-Ok c = simp c.in-Ok.is
-
-pub returns-in-Err : goal.returns-in-Err
-returns-in-Err c = simp (c.in-Err.is, c.standard.ensures)
