@@ -25,7 +25,7 @@ pub struct Session {
     pub stopped: bool,
 }
 
-// Whether the session stops at a line, and the place behind what the line printed.
+// Whether the session stops at a line, and the place behind what the line printed, which there is in either case.
 #[derive(Clone, Copy)]
 struct Stepped {
     stops: bool,
@@ -151,6 +151,7 @@ pub fn absorb(st: Session, chunk: &[u8], out: &mut [u8]) -> Absorbed
     let mut session = Session { line, ..st };
     let mut used = 0usize;
     let mut written = 0usize;
+    // no `for`: each turn takes the bytes of a whole line
     while (used < chunk.len()) & !session.stopped & (room == ROOM) & (written <= limit) {
         let next = advance(&mut session, &chunk[used..], out, written);
         used += next.used;
