@@ -1,7 +1,7 @@
 -- A feed of a part of the bars, on its part of the sheet, after feeds of those before them; without and with a tally. Assumes nothing.
 use Rattle.std.specs.Prelude.{Ok}
 use Prim.Native.Nat.{ℕ, ◌+◌, ◌-◌, ◌*◌, ◌≤◌}
-use mathlib.Core.Path.{◌≡◌, ap, sym, ◌∙◌}
+use mathlib.Core.Path.{◌≡◌, refl, ap, sym, ◌∙◌}
 use mathlib.Core.Bool.{Bool, true, false, cond}
 use mathlib.Core.List.{List}
 use native.Mathlib.Omega.{arith}
@@ -14,7 +14,6 @@ use Rattle.measures.proofs.Overlay.{length-overlay}
 use Rattle.measures.proofs.RunLaws.{length-bars, bars-drop, bars-take}
 use Rattle.recognisers.specs.Number.{places, row_bytes}
 use Rattle.box_record.specs.declared.boxes.BarBox.{BarBox}
-use Rattle.answers.specs.Refusal.{Verdict}
 use Rattle.recognisers.specs.Refusal.{feed_verdict}
 use Rattle.bar_box.specs.Box.{kept, taken_in, fed_of, sheet_of}
 use Rattle.bar_box.specs.History.{Feed}
@@ -24,7 +23,7 @@ use Rattle.bar_box.proofs.FeedSteps.{fits, accepts}
 use Rattle.bar_box.proofs.PartLaws.{rows_from, rest_of, length_rest, overlay-rest, fed-box, fed-sheet, rows_both}
 use Rattle.tallies.specs.declared.table.TallyRow.{TallyRow}
 use Rattle.tallies.specs.Tally.{Shaped, counted}
-use Rattle.tallies.specs.Feed.{Tallied, lent, verdict_with, tallied_of, tallied_sheet, answered, table_answer}
+use Rattle.tallies.specs.Feed.{Tallied, lent, verdict_with, tallied_of, tallied_sheet}
 use Rattle.tallies.proofs.FeedLaws.{plain-verdict, accepted-adds, accepted-plain, tallied-accepted}
 use Rattle.tallies.proofs.PartLaws.{parts_add, parts-counted}
 
@@ -104,11 +103,15 @@ module _ (b : BarBox) (all : length b.bars ≡ places) (tally : List TallyRow) (
     unfolding tallied_sheet
     next-tallied-sheet = rw accepted-with next-sheet
 
-    -- a feed that counts if it is told to: what it answers, the box after it, and its part of the sheet
-    next-answer : (on : Bool) → cond on (table_answer (tallied_of (taken_in b before) (brought on (rows_from b before) tally) part)) (answered (fed_of (taken_in b before) part.prices (length part.sheet)).verdict (brought on (rows_from b before) tally)) ≡ Ok (brought on (rows_from b later) tally)
+    -- a feed that counts if it is told to: its verdict, the table and the box after it, and its part of the sheet
+    next-verdict : (on : Bool) → cond on (tallied_of (taken_in b before) (brought on (rows_from b before) tally) part).verdict (fed_of (taken_in b before) part.prices (length part.sheet)).verdict ≡ Ok tt
     unfolding fed_of
-    next-answer true = ap table_answer next-tallied
-    next-answer false = ap (λ (v : Verdict). answered v tally) accepted
+    next-verdict true = ap (λ (o : Tallied). o.verdict) next-tallied
+    next-verdict false = accepted
+
+    next-table : (on : Bool) → cond on (tallied_of (taken_in b before) (brought on (rows_from b before) tally) part).tally (brought on (rows_from b before) tally) ≡ brought on (rows_from b later) tally
+    next-table true = ap (λ (o : Tallied). o.tally) next-tallied
+    next-table false = refl
 
     next-after : (on : Bool) → cond on (tallied_of (taken_in b before) (brought on (rows_from b before) tally) part).after (fed_of (taken_in b before) part.prices (length part.sheet)).after ≡ taken_in b later
     next-after true = ap (λ (o : Tallied). o.after) next-tallied
@@ -118,10 +121,11 @@ module _ (b : BarBox) (all : length b.bars ≡ places) (tally : List TallyRow) (
     next-rows true = next-tallied-sheet
     next-rows false = next-sheet
 
-    -- all three, of a box and a table that are those after the bars before, and with the place where the part ends
+    -- all four, of a box and a table that are those after the bars before, and with the place where the part ends
     pub next : (on : Bool) (x : BarBox) (t : List TallyRow) (past : ℕ) → x ≡ taken_in b before → t ≡ brought on (rows_from b before) tally → past ≡ passed + n
         → let f = lent (take (4 * past - 4 * passed) (drop (4 * passed) ps)) (rest_of s (row_bytes * passed)) in
-        (cond on (table_answer (tallied_of x t f)) (answered (fed_of x f.prices (length f.sheet)).verdict t) ≡ Ok (brought on (rows_from b later) tally))
+        (cond on (tallied_of x t f).verdict (fed_of x f.prices (length f.sheet)).verdict ≡ Ok tt)
+        × (cond on (tallied_of x t f).tally t ≡ brought on (rows_from b later) tally)
         × (cond on (tallied_of x t f).after (fed_of x f.prices (length f.sheet)).after ≡ taken_in b later)
         × (put_mid (row_bytes * passed) (length s - row_bytes * passed) s (cond on (tallied_sheet x t f) (sheet_of x f.prices f.sheet)) ≡ overlay s₀ 0 (rows_from b later))
-    next on x t past same-box same-table e = rw (same-box, same-table, e) (next-answer on, next-after on, next-rows on)
+    next on x t past same-box same-table e = rw (same-box, same-table, e) (next-verdict on, next-table on, next-after on, next-rows on)

@@ -3,7 +3,7 @@ ghost use Rattle.std.specs.Prelude.{◌≡◌, cond, length};
 ghost use Rattle.std.specs.Prelude.{Ok};
 ghost use Rattle.bar_box.specs.Box.{fed_of, sheet_of};
 ghost use Rattle.tallies.specs.Tally.{Shaped};
-ghost use Rattle.tallies.specs.Feed.{lent, verdict_with, tallied_of, tallied_sheet, answered, table_answer};
+ghost use Rattle.tallies.specs.Feed.{lent, verdict_with, tallied_of, tallied_sheet, answered};
 
 use bar_box::BarBox;
 use measures::least;
@@ -12,25 +12,25 @@ use recognisers::counts::{PLACES, RECOGNISERS, ROW_BYTES};
 use tallies::TallyRow;
 use tallies::feeds::tally_verdict;
 
-// A feed that counts into the tally, or one that hands it back as it is. The switch stands here alone, so that the feeds are proved once for both:
-// a closure in its place would bring this contract along as a `requires`.
+// A feed that counts into the tally, or one that leaves it as it is. The switch stands here alone, so that the feeds are proved once for both:
+// a closure in its place would bring this contract along as a `requires`. The table is not by value here: a feed that counts nothing would copy it.
 fn feed_part(
     b: &mut BarBox,
     counts: bool,
-    tally: [TallyRow; RECOGNISERS],
+    tally: &mut [TallyRow; RECOGNISERS],
     prices: &[f64],
     sheet: &mut [u8],
-) -> Result<[TallyRow; RECOGNISERS], Refusal>
-    ensures answer { let f = lent prices.now sheet.old in
-        result ≡ cond counts (table_answer (tallied_of b.old tally f)) (answered (fed_of b.old prices.now (length sheet.old)).verdict tally) }
-    ensures after { b.new ≡ cond counts (tallied_of b.old tally (lent prices.now sheet.old)).after (fed_of b.old prices.now (length sheet.old)).after }
-    ensures sheet { sheet.new ≡ cond counts (tallied_sheet b.old tally (lent prices.now sheet.old)) (sheet_of b.old prices.now sheet.old) }
+) -> Result<(), Refusal>
+    ensures verdict { result ≡ cond counts (tallied_of b.old tally.old (lent prices.now sheet.old)).verdict (fed_of b.old prices.now (length sheet.old)).verdict }
+    ensures table { tally.new ≡ cond counts (tallied_of b.old tally.old (lent prices.now sheet.old)).tally tally.old }
+    ensures after { b.new ≡ cond counts (tallied_of b.old tally.old (lent prices.now sheet.old)).after (fed_of b.old prices.now (length sheet.old)).after }
+    ensures sheet { sheet.new ≡ cond counts (tallied_sheet b.old tally.old (lent prices.now sheet.old)) (sheet_of b.old prices.now sheet.old) }
 {
     if counts {
-        tallies::feed(b, tally, prices, sheet)
+        *tally = tallies::feed(b, *tally, prices, sheet)?;
+        Ok(())
     } else {
-        bar_box::feed(b, prices, sheet)?;
-        Ok(tally)
+        bar_box::feed(b, prices, sheet)
     }
 }
 
@@ -58,17 +58,19 @@ fn take_parts(
         let first = 4 * done;
         let past = 4 * (done + n);
         let at = ROW_BYTES * done;
-        table = feed_part(b, counts, table, &prices[first..past], &mut sheet[at..])?;
+        feed_part(
+            b,
+            counts,
+            &mut table,
+            &prices[first..past],
+            &mut sheet[at..],
+        )?;
         done += n;
     }
     let end = 4 * total;
-    feed_part(
-        b,
-        counts,
-        table,
-        &prices[4 * done..end],
-        &mut sheet[ROW_BYTES * done..],
-    )
+    let rest = &prices[4 * done..end];
+    feed_part(b, counts, &mut table, rest, &mut sheet[ROW_BYTES * done..])?;
+    Ok(table)
 }
 
 // Feeds of these sizes and a last one of what they leave, which bring the tally along and count into it if they are told to; or the refusal of
