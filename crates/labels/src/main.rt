@@ -29,6 +29,7 @@ fn finish(st: Session, output: &mut impl Write) {
     let _ = output.write_all(&out[..n]);
 }
 
+// Not one function with the tally program's, which differs in more than a type: it prints nothing before the end.
 // What one read brings: nothing at the input's end, where the line that has begun ends. A read that fails ends the program, and the line
 // that has begun is not judged.
 fn read_some(st: Session, input: &mut impl Read, output: &mut impl Write) -> Option<Session> {

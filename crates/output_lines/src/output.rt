@@ -34,7 +34,7 @@ pub fn goes_on(stop: Option<Stop>) -> bool
     stop.is_none()
 }
 
-// ---- parts of lines
+// ---- parts of lines; out and at stay two parameters here, as in the public functions below, whose clauses speak of both
 
 // Bytes and the one that ends them.
 fn write_field(s: &[u8], end: u8, out: &mut [u8], at: usize) -> usize
