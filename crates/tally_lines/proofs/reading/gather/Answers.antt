@@ -16,20 +16,20 @@ use Rattle.input_lines.proofs.PartLaws.{to_end}
 use Rattle.tally_lines.specs.declared.reading.Gathered.{Gathered}
 use Rattle.output_lines.specs.Output.{goes_on}
 use Rattle.tally_lines.specs.Session.{read_from}
-use Rattle.tally_lines.proofs.GuardLaws.{turn-goes_on, used-some}
+use Rattle.tally_lines.proofs.GuardLaws.{none-goes_on, turn-goes_on, used-some}
 use Rattle.tally_lines.proofs.ReadLaws.{read_kept, read-turn, gathered-is, begun_kept}
 use Rattle.tally_lines.proofs.reading.gather.Goals as goal
 
 pub loop-used-init : goal.loop-used-init
 unfolding read_from prices_of
 loop-used-init c =
-    (omega arith, omega arith, refl, begun_kept c.extend-begun.result (content c.args.line ++ []) c.extend-begun.ensures, refl, refl, refl, sym (overlay-none c.args.prices.now 0), λ e. (omega (arith, c.requires.0), refl))
+    (omega arith, omega arith, refl, begun_kept c.extend-begun.result (content c.args.line ++ []) c.extend-begun.ensures, refl, refl, sym (overlay-none c.args.prices.now 0), λ e. (omega (arith, c.requires.0), refl))
 
 pub next_line-next-requires : goal.next_line-next-requires
 next_line-next-requires c =
     let loop = c.loop-used in
     let chunk = c.args.chunk.now in
-    let sure = turn-goes_on loop.used (length chunk) loop.bars c.args.most loop.going c.loop-used-test.true in
+    let sure = turn-goes_on loop.used (length chunk) loop.bars c.args.most _ c.loop-used-test.true in
     (rw (to_end chunk loop.used, length-drop) (omega (arith, sure.0)), omega (arith, c.requires.1, sure.1, loop.invariant.2))
 
 pub overflow_add-used : goal.overflow_add-used
@@ -55,14 +55,14 @@ loop-used-preserved c =
     let chunk = c.args.chunk.now in
     let s = c.args.prices.now in
     let first = content c.extend-begun.result in
-    let sure = turn-goes_on loop.used (length chunk) loop.bars c.args.most loop.going c.loop-used-test.true in
+    let sure = turn-goes_on loop.used (length chunk) loop.bars c.args.most _ c.loop-used-test.true in
     let u = loop.used in
     let n = turn.result.used in
     let read = read_from [] first (take u chunk) in
     let more = read_from [] read.line (take n (drop u chunk)) in
     let begun : content loop.begun ≡ read.line = rw inv.3 (content-partial read.line) in
     let did = rw (to_end chunk u, begun) at turn.ensures in
-    let still : goes_on read.stop ≡ true = rw (← inv.5, ← inv.6) sure.2 in
+    let still : goes_on read.stop ≡ true = rw (← inv.5) (none-goes_on loop.stop _ c.is_none.ensures ∙ sure.2) in
     let on = read-turn first chunk u n read refl still in
     let is = did.value.0 in
     let front = length-prices read.bars in
@@ -76,8 +76,7 @@ loop-used-preserved c =
       ap (λ (g : Gathered). g.line) is,
       rw (length-append read.bars more.bars) (omega (arith, bars, inv.4)),
       ap (λ (g : Gathered). g.stop) is,
-      c.goes_on-going.ensures,
-      did.value.1 ∙ rw (inv.7, prices-append read.bars more.bars) joined,
+      did.value.1 ∙ rw (inv.6, prices-append read.bars more.bars) joined,
       λ e. absurd (let z : ⊥ = omega (arith, did.le_used.0) in z),
     )
 
@@ -89,5 +88,5 @@ returns c =
     let chunk = c.args.chunk.now in
     let first : content c.extend-begun.result ≡ kept_line line = rw (c.extend-begun.ensures, content-partial (kept_line (line ++ [])), append-nil) in
     let whole = rw (first, read_kept [] line (take loop.used chunk)) at inv in
-    let some : 1 ≤ loop.used = used-some loop.used (length chunk) loop.bars c.args.most loop.going c.requires.2 inv.8 c.loop-used-test.false in
-    record { le_used = (some, inv.0, inv.1); value = (gathered-is (record { line = loop.begun; used = loop.used; bars = loop.bars; stop = loop.stop }) loop.used 0 (read_from [] line (take loop.used chunk)) whole.3 refl (omega (arith, whole.4)) whole.5, whole.7) }
+    let some : 1 ≤ loop.used = used-some loop.used (length chunk) loop.bars c.args.most _ c.requires.2 (λ e. let first = inv.7 e in (first.0, sym (none-goes_on loop.stop _ c.is_none.ensures) ∙ ap goes_on first.1)) c.loop-used-test.false in
+    record { le_used = (some, inv.0, inv.1); value = (gathered-is (record { line = loop.begun; used = loop.used; bars = loop.bars; stop = loop.stop }) loop.used 0 (read_from [] line (take loop.used chunk)) whole.3 refl (omega (arith, whole.4)) whole.5, whole.6) }

@@ -1,11 +1,10 @@
 use Prim.Native.Nat.{◌-◌, ◌≤◌, ◌<◌}
-use mathlib.Core.Bool.{true}
+use Rattle.std.specs.Prelude.{None}
 use mathlib.Core.List.{[]}
 use mathlib.Core.Path.{◌≡◌}
 use lib.ListN.{length, take}
 use Rattle.measures.specs.Bar.{overlay, prices_of}
 use Rattle.input_lines.specs.Lines.{content, partial_of}
-use Rattle.output_lines.specs.Output.{goes_on}
 use Rattle.tally_lines.specs.Session.{read_from}
 use Rattle.tally_lines.proofs.reading.gather.Given as goal
 
@@ -18,9 +17,8 @@ invariant-loop-used l =
     × (l.begun ≡ partial_of read.line)
     × (l.bars ≡ length read.bars)
     × (l.stop ≡ read.stop)
-    × (l.going ≡ goes_on l.stop)
     × (l.prices ≡ overlay l.initial.prices 0 (prices_of read.bars))
-    × (l.used ≡ 0 → (l.bars < l.most) × (l.going ≡ true))
+    × (l.used ≡ 0 → (l.bars < l.most) × (l.stop ≡ None))
 
 abbrev pub decreases-loop-used : goal.decreases-loop-used
 decreases-loop-used l = length l.chunk - l.used
