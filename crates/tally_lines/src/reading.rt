@@ -78,22 +78,19 @@ pub(crate) fn gather(line: Partial, chunk: &[u8], most: usize, prices: &mut [f64
     ensures value { (result ≡ gathered_of result.used 0 (read_from [] (content line) (take result.used chunk.now))) × (prices.new ≡ overlay prices.old 0 (prices_of (read_from [] (content line) (take result.used chunk.now)).bars)) }
 {
     // the line anew, so that it is one value from the start
-    let mut begun = lines::extend(line, &chunk[..0]);
-    let mut used = 0usize;
-    let mut bars = 0usize;
-    let mut stop = None;
+    let mut got = Gathered {
+        line: lines::extend(line, &chunk[..0]),
+        used: 0,
+        bars: 0,
+        stop: None,
+    };
     // not over the bytes one by one: each turn takes a whole line
-    while (used < chunk.len()) & (bars < most) & stop.is_none() {
-        let next = next_line(begun, &chunk[used..], prices, bars);
-        begun = next.line;
-        used += next.used;
-        bars = next.bars;
-        stop = next.stop;
+    while (got.used < chunk.len()) & (got.bars < most) & got.stop.is_none() {
+        let next = next_line(got.line, &chunk[got.used..], prices, got.bars);
+        got = Gathered {
+            used: got.used + next.used,
+            ..next
+        };
     }
-    Gathered {
-        line: begun,
-        used,
-        bars,
-        stop,
-    }
+    got
 }

@@ -52,7 +52,7 @@ fn batch(count: u32) -> usize
 }
 
 // Feeds bars all at once, which leaves what feeding them one by one does (proofs/BatchLaws.antt). No bars, no feed: a tally that doesn't add
-// up is refused with the first bar.
+// up is refused with the first bar. That the box has all its places is asked and kept, since nothing here reads them, which would show it.
 fn feed_all(
     held: &mut BarBox,
     tally: [TallyRow; RECOGNISERS],
