@@ -13,20 +13,21 @@ use lib.Ieee.{Float}
 use Rattle.measures.specs.Bar.{Bar, bars_of, prices_of}
 use Rattle.answers.specs.declared.refusals.Refusal.{Refusal}
 use Rattle.recognisers.specs.Number.{row_bytes, most_bars, places}
-use Rattle.recognisers.specs.Refusal.{bad_threshold, too_many_bars, first_true, next_after, feed_tried}
+use Rattle.recognisers.specs.Refusal.{bad_threshold, too_many_bars, first_true, next_after, leaves, feed_tried}
 use Rattle.recognisers.specs.Threshold.{valid_of}
 use Rattle.box_record.specs.declared.boxes.BarBox.{BarBox}
 use Rattle.bar_box.specs.Box.{numbered, held, taken_in}
 use Rattle.bar_box.proofs.BoxLaws.{length-laid, taken-append}
 use Rattle.bar_box.proofs.FeedSteps.{fits}
 use Rattle.tallies.specs.declared.table.TallyRow.{TallyRow}
-use Rattle.tallies.specs.declared.feeds.Tallied.{Tallied}
 use Rattle.tallies.specs.Tally.{Shaped, adds_up, counted}
-use Rattle.tallies.specs.Feed.{lent, wrong_tally, tally_verdict, verdict_with, tallied_of}
+use Rattle.tallies.specs.Feed.{Tallied, lent, wrong_tally, tally_verdict, verdict_with, tallied_of, table_answer}
 use Rattle.tallies.proofs.RowLaws.{counted-shaped}
 use Rattle.tallies.proofs.FeedLaws.{accepted-adds, accepted-plain, tallied-refused, tallied-accepted}
 use Rattle.tallies.proofs.PartLaws.{rows_from, parts_add, parts-counted}
+use Rattle.bar_box.specs.History.{Feed, fed, rows_in}
 use Rattle.tally_lines.specs.Session.{bar_feed, fed_all}
+use Rattle.tally_lines.specs.SessionSteps.{fed_by}
 
 -- ---- the verdict of so many whole bars on a sheet that is long enough
 abbrev verdict_for : BarBox → List TallyRow → ℕ → Verdict
@@ -111,6 +112,24 @@ module _ (b : BarBox) (all : length b.bars ≡ places) (tally : List TallyRow) (
   pub batch-fed : length ps ≡ 4 * length (bars_of ps) → 1 ≤ length (bars_of ps) → (1 < length (bars_of ps) → b.count + length (bars_of ps) ≤ most_bars)
       → row_bytes * length (bars_of ps) ≤ length sheet → tallied_of b tally (lent ps sheet) ≡ fed_all b tally (bars_of ps)
   batch-fed whole some few room = by-verdict (bars_of ps) refl whole some few room (verdict_for b tally (length (bars_of ps))) refl
+
+-- ---- a feed is what its answer and its box say, beside the tally before
+pub fed-by : (b : BarBox) (tally : List TallyRow) (f : Feed) → tallied_of b tally f ≡ fed_by (table_answer (tallied_of b tally f)) (tallied_of b tally f).after tally
+unfolding tallied_of
+fed-by b tally f = go (verdict_with b tally f)
+  where
+    go : (v : Verdict) → let o : Tallied = record { verdict = v; after = leaves v b (fed b f).after; tally = leaves v tally (counted (rows_in b f) tally) } in
+        o ≡ fed_by (table_answer o) o.after tally
+    go (Ok tt) = refl
+    go (Err r) = refl
+
+-- ---- and its box keeps all places
+pub tallied-full : (b : BarBox) → length b.bars ≡ places → (tally : List TallyRow) (f : Feed) → length (tallied_of b tally f).after.bars ≡ places
+tallied-full b all tally f = go (verdict_with b tally f) refl
+  where
+    go : (v : Verdict) → verdict_with b tally f ≡ v → length (tallied_of b tally f).after.bars ≡ places
+    go (Ok tt) e = rw (tallied-accepted b tally f e) (length-laid b.bars (held b ++ numbered b.count (bars_of f.prices)) all)
+    go (Err r) e = rw (tallied-refused b tally f r e) all
 
 -- ---- no bars
 none-bars : (ps : List Float) → length ps ≡ 0 → bars_of ps ≡ []

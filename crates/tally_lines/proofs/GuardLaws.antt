@@ -1,12 +1,22 @@
--- The tests of the loop that gathers. Assumes nothing.
+-- The tests of the loops that gather and absorb. Assumes nothing.
+use Rattle.std.specs.Prelude.{Option, Some, None, is_some, not}
 use Prim.Native.Nat.{ℕ, ◌≤◌, ◌<◌}
 use mathlib.Core.Bool.{Bool, true, false, ◌&&◌, true≢false}
-use mathlib.Core.Path.{◌≡◌, sym, ◌∙◌}
+use mathlib.Core.Path.{◌≡◌, refl, sym, ◌∙◌}
 use native.Mathlib.Decide.{dec_le}
 use native.Mathlib.Omega.{arith}
 use borrow.Author.Tests.{ltb-true, lt-ltb}
 use lib.Dec.{ltb}
 use Rattle.input_lines.proofs.RunLaws.{both}
+use Rattle.output_lines.specs.declared.output.Stop.{Stop}
+use Rattle.output_lines.specs.Output.{goes_on}
+
+-- no line was refused
+pub none-goes_on : (stop : Option Stop) (t : Bool) → is_some stop ≡ not t → goes_on stop ≡ t
+none-goes_on None true e = refl
+none-goes_on None false e = absurd (true≢false (sym e))
+none-goes_on (Some s) true e = absurd (true≢false e)
+none-goes_on (Some s) false e = refl
 
 module _ (used len bars most : ℕ) (going : Bool) where
   abbrev goes : Bool

@@ -107,8 +107,8 @@ alone ordinal stop e = record { ordinal = ordinal; stop = stop; refused = e; pri
 same : (h : List Bar) (lines : List Line) → length h ≤ most_bars → Tabled h lines (tally_prints h lines) ⊎ Refused (history_prints h lines) (tally_prints h lines)
 unfolding lines_print
 same h [] few = inl (record { bars = []; accepted = refl; few = rw append-nil few; prints = rw append-nil })
-same h ((Err BadShape) ∷ lines) few = inr (alone (length h + 1) (Some (By refusal.BadShape)) refl)
-same h (BadPrice place ∷ lines) few = inr (alone (length h + 1) (Some (Price place)) refl)
+same h (Err BadShape ∷ lines) few = inr (alone (length h + 1) (Some (By refusal.BadShape)) refl)
+same h (Err (BadPrice place) ∷ lines) few = inr (alone (length h + 1) (Some (Price place)) refl)
 same h (Ok bar ∷ lines) few = go (ltb (length h) most_bars) refl (λ room. same (h ++ (bar ∷ [])) lines (rw (length-append h (bar ∷ [])) (omega (arith, ltb-true (length h) most_bars room))))
   where
     behind : {tally printed : List ℕ} → Tabled (h ++ (bar ∷ [])) lines tally ⊎ Refused printed tally

@@ -13,8 +13,7 @@ use Rattle.measures.specs.Bar.{Bar}
 use Rattle.box_record.specs.declared.boxes.BarBox.{BarBox}
 use Rattle.recognisers.specs.Refusal.{leaves}
 use Rattle.tallies.specs.declared.table.TallyRow.{TallyRow}
-use Rattle.tallies.specs.declared.feeds.Tallied.{Tallied}
-use Rattle.tallies.specs.Feed.{tallied_of}
+use Rattle.tallies.specs.Feed.{Tallied, tallied_of}
 use Rattle.input_lines.specs.Lines.{kept_line, content, partial_of}
 use Rattle.input_lines.proofs.LineLaws.{content-partial}
 use Rattle.output_lines.specs.declared.output.Stop.{Stop, TheVariants.By, TheVariants.Price}

@@ -1,8 +1,7 @@
 -- The tally program, read by read: what it holds between two of them, what the bytes of one leave, and what the input's end prints.
 -- That this is what the input's lines print is proved in proofs/Whole.antt.
-use Rattle.std.specs.Prelude.{Err, Ok, Option, Some, None}
+use Rattle.std.specs.Prelude.{ℕ, ◌+◌, cond, List, [], ◌∷◌, ◌++◌, eqb, length, replicate, Ok, Err, Option, Some, None}
 use Rattle.answers.specs.Refusal.{Verdict}
-use Rattle.std.specs.Prelude.{ℕ, ◌+◌, cond, List, [], ◌∷◌, ◌++◌, eqb, length, replicate}
 use Rattle.measures.specs.Bar.{Bar, prices_of}
 use Rattle.answers.specs.declared.refusals.Refusal.TheVariants as refusal
 use Rattle.recognisers.specs.Number.{row_bytes}
@@ -12,9 +11,8 @@ use Rattle.bar_box.specs.Box.{fresh_box}
 use Rattle.recognisers.specs.Refusal.{leaves}
 use Rattle.bar_box.specs.History.{Feed}
 use Rattle.tallies.specs.declared.table.TallyRow.{TallyRow}
-use Rattle.tallies.specs.declared.feeds.Tallied.{Tallied}
 use Rattle.tallies.specs.Tally.{fresh_tally}
-use Rattle.tallies.specs.Feed.{lent, tallied_of}
+use Rattle.tallies.specs.Feed.{Tallied, lent, tallied_of}
 use Rattle.text.specs.declared.line_text.LineError.TheVariants.{BadShape, BadPrice}
 use Rattle.text.specs.LineText.{Line, line_of}
 use Rattle.input_lines.specs.Lines.{line_feed, kept_line, content, partial_of}
@@ -34,8 +32,7 @@ pub record Read : Type 0 where
 -- a line's bar, and its refusal
 abbrev pub line_bars : Line → List Bar
 line_bars (Ok bar) = bar ∷ []
-line_bars (Err BadShape) = []
-line_bars (Err (BadPrice place)) = []
+line_bars (Err e) = []
 
 abbrev pub line_stop : Line → Option Stop
 line_stop (Ok bar) = None

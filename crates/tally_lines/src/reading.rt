@@ -8,10 +8,9 @@ ghost use Rattle.tally_lines.specs.SessionSteps.{gathered_of};
 
 use measures::put_bar;
 use output_lines::Stop;
-use output_lines::output::goes_on;
 use recognisers::Refusal;
 use text::lines::LINE_FEED;
-use text::{Line, Partial, lines, read_partial};
+use text::{LineError, Partial, lines, read_partial};
 
 // The line that has begun behind the bytes used, the bars read, and whether a line was refused.
 #[derive(Clone, Copy)]
@@ -19,7 +18,7 @@ pub(crate) struct Gathered {
     pub line: Partial,
     pub used: usize,
     pub bars: usize,
-    pub stop: Stop,
+    pub stop: Option<Stop>,
 }
 
 // The end of a line behind n bars, with so many bytes used: its bar goes behind theirs.
@@ -27,28 +26,27 @@ fn end_line(line: Partial, used: usize, prices: &mut [f64], n: usize) -> Gathere
     requires { 4 * (n + 1) ≤ length prices.old }
     ensures { (result.line ≡ partial_of []) × (result.used ≡ used) × (result.bars ≡ n + length (line_bars (line_of (content line)))) × (result.stop ≡ line_stop (line_of (content line))) × (prices.new ≡ overlay prices.old (4 * n) (prices_of (line_bars (line_of (content line))))) }
 {
-    let begun = lines::begin();
+    let ended = Gathered {
+        line: lines::begin(),
+        used,
+        bars: n,
+        stop: None,
+    };
     match read_partial(line) {
-        Line::Prices(bar) => {
+        Ok(bar) => {
             put_bar(bar, prices, n);
             Gathered {
-                line: begun,
-                used,
                 bars: n + 1,
-                stop: Stop::Going,
+                ..ended
             }
         }
-        Line::BadShape => Gathered {
-            line: begun,
-            used,
-            bars: n,
-            stop: Stop::By(Refusal::BadShape),
+        Err(LineError::BadShape) => Gathered {
+            stop: Some(Stop::By(Refusal::BadShape)),
+            ..ended
         },
-        Line::BadPrice(place) => Gathered {
-            line: begun,
-            used,
-            bars: n,
-            stop: Stop::Price(place),
+        Err(LineError::BadPrice(place)) => Gathered {
+            stop: Some(Stop::Price(place)),
+            ..ended
         },
     }
 }
@@ -68,7 +66,7 @@ fn next_line(line: Partial, chunk: &[u8], prices: &mut [f64], n: usize) -> Gathe
             line: longer,
             used: k,
             bars: n,
-            stop: Stop::Going,
+            stop: None,
         }
     }
 }
@@ -80,23 +78,19 @@ pub(crate) fn gather(line: Partial, chunk: &[u8], most: usize, prices: &mut [f64
     ensures value { (result ≡ gathered_of result.used 0 (read_from [] (content line) (take result.used chunk.now))) × (prices.new ≡ overlay prices.old 0 (prices_of (read_from [] (content line) (take result.used chunk.now)).bars)) }
 {
     // the line anew, so that it is one value from the start
-    let mut begun = lines::extend(line, &chunk[..0]);
-    let mut used = 0usize;
-    let mut bars = 0usize;
-    let mut stop = Stop::Going;
-    let mut going = true;
-    while (used < chunk.len()) & (bars < most) & going {
-        let next = next_line(begun, &chunk[used..], prices, bars);
-        begun = next.line;
-        used += next.used;
-        bars = next.bars;
-        stop = next.stop;
-        going = goes_on(stop);
+    let mut got = Gathered {
+        line: lines::extend(line, &chunk[..0]),
+        used: 0,
+        bars: 0,
+        stop: None,
+    };
+    // not over the bytes one by one: each turn takes a whole line
+    while (got.used < chunk.len()) & (got.bars < most) & got.stop.is_none() {
+        let next = next_line(got.line, &chunk[got.used..], prices, got.bars);
+        got = Gathered {
+            used: got.used + next.used,
+            ..next
+        };
     }
-    Gathered {
-        line: begun,
-        used,
-        bars,
-        stop,
-    }
+    got
 }

@@ -1,56 +1,46 @@
 // What is held between two reads of an input, and what its end prints.
 ghost use Rattle.std.specs.Prelude.{◌≡◌, true, [], ◌+◌, ◌*◌, ◌≤◌, ◌<◌, length, take};
 ghost use Rattle.measures.specs.Bar.{bars_of};
-ghost use Rattle.recognisers.specs.Number.{most_bars};
+ghost use Rattle.recognisers.specs.Number.{most_bars, places};
 ghost use Rattle.input_lines.specs.Lines.{content, partial_of};
 ghost use Rattle.output_lines.specs.Output.{goes_on, line_in, Written};
 ghost use Rattle.tally_lines.specs.Output.{tally_room};
 ghost use Rattle.tally_lines.specs.Session.{state_of, session_of, fresh_state, fed_all, settled_by, state_after, printed, closed, end_prints};
+ghost use Rattle.tally_lines.specs.SessionSteps.{fed_by};
 
 use crate::reading::Gathered;
 use crate::{output, reading};
 use bar_box::BarBox;
-use measures::least;
 use output_lines::Stop;
-use output_lines::output::{LONGEST_COUNT, goes_on, print_refusal};
+use output_lines::output::{LONGEST_COUNT, print_refusal};
 use recognisers::counts::{LABELS, MOST_BARS, RECOGNISERS};
-use recognisers::{Thresholds, Verdict};
-use tallies::{Tallied, TallyRow};
+use recognisers::{Refusal, Thresholds};
+use tallies::TallyRow;
 use text::{Partial, lines};
 
 // The room for what the input's end may print: a line for each cell.
 const ROOM: usize = RECOGNISERS * LABELS * LONGEST_COUNT;
 
-// The line that has begun, the box, the tally, and whether a line was refused.
+// The line that has begun, the box, the tally, and what a line was refused by.
 #[derive(Clone, Copy)]
 pub struct Session {
     pub line: Partial,
     pub held: BarBox,
     pub tally: [TallyRow; RECOGNISERS],
-    pub stop: Stop,
-}
-
-// The session after the first used bytes.
-#[derive(Clone, Copy)]
-struct Taken {
-    session: Session,
-    used: usize,
+    pub stop: Option<Stop>,
 }
 
 // Before the first byte.
 pub fn begin() -> Session
     ensures { result ≡ session_of fresh_state }
 {
-    let standard = Thresholds::standard();
-    let made = bar_box::make(standard);
+    let made = bar_box::make(Thresholds::standard());
     let held = made.after;
-    let line = lines::begin();
-    let tally = tallies::fresh();
     Session {
-        line,
+        line: lines::begin(),
         held,
-        tally,
-        stop: Stop::Going,
+        tally: tallies::fresh(),
+        stop: None,
     }
 }
 
@@ -58,75 +48,59 @@ pub fn begin() -> Session
 fn batch(count: u32) -> usize
     ensures { (1 ≤ result) × (result ≤ 1024) × (1 < result → count + result ≤ most_bars) }
 {
-    let left = MOST_BARS - least(count as usize, MOST_BARS);
-    let most = least(left, 1024);
-    if most == 0 { 1 } else { most }
+    MOST_BARS.saturating_sub(count as usize).clamp(1, 1024)
 }
 
 // Feeds bars all at once, which leaves what feeding them one by one does (proofs/BatchLaws.antt). No bars, no feed: a tally that doesn't add
-// up is refused with the first bar.
-fn feed_all(held: BarBox, tally: [TallyRow; RECOGNISERS], prices: &[f64]) -> Tallied
-    requires { (length prices.now ≡ 4 * length (bars_of prices.now)) × (length prices.now ≤ 4096) × (1 < length (bars_of prices.now) → held.count + length (bars_of prices.now) ≤ most_bars) }
-    ensures { result ≡ fed_all held tally (bars_of prices.now) }
+// up is refused with the first bar. That the box has all its places is asked and kept, since nothing here reads them, which would show it.
+fn feed_all(
+    held: &mut BarBox,
+    tally: [TallyRow; RECOGNISERS],
+    prices: &[f64],
+) -> Result<[TallyRow; RECOGNISERS], Refusal>
+    requires { (length held.old.bars ≡ places) × (length prices.now ≡ 4 * length (bars_of prices.now)) × (length prices.now ≤ 4096) × (1 < length (bars_of prices.now) → held.old.count + length (bars_of prices.now) ≤ most_bars) }
+    ensures fed { fed_all held.old tally (bars_of prices.now) ≡ fed_by result held.new tally }
+    ensures places { length held.new.bars ≡ places }
 {
-    if prices.len() == 0 {
-        Tallied {
-            verdict: Ok(()),
-            after: held,
-            tally,
-        }
-    } else {
-        let mut sheet = io::large_buffer();
-        tallies::feed(held, tally, prices, &mut sheet)
+    if prices.is_empty() {
+        return Ok(tally);
     }
+    let mut sheet = io::large_buffer();
+    tallies::feed(held, tally, prices, &mut sheet)
 }
 
-// What the feed of the bars that were gathered leaves: a refused one refuses its line.
-fn settle(fed: Tallied, got: Gathered) -> Session
+// What the feed of the bars that were gathered leaves beside the box: a refused one refuses its line.
+fn settle(st: &mut Session, fed: Result<[TallyRow; RECOGNISERS], Refusal>, got: Gathered)
     requires { got.line ≡ partial_of (content got.line) }
-    ensures { result ≡ session_of (settled_by fed (record { bars = []; line = content got.line; stop = got.stop })) }
+    ensures { st.new ≡ session_of (settled_by (fed_by fed st.old.held st.old.tally) (record { bars = []; line = content got.line; stop = got.stop })) }
 {
-    let held = fed.after;
-    let tally = fed.tally;
-    let verdict = fed.verdict;
-    match verdict {
-        Err(why) => Session {
-            line: lines::begin(),
-            held,
-            tally,
-            stop: Stop::By(why),
-        },
-        Ok(()) => {
-            let line = got.line;
-            let stop = got.stop;
-            Session {
-                line,
-                held,
-                tally,
-                stop,
-            }
+    match fed {
+        Err(why) => {
+            st.line = lines::begin();
+            st.stop = Some(Stop::By(why));
+        }
+        Ok(tally) => {
+            st.line = got.line;
+            st.tally = tally;
+            st.stop = got.stop;
         }
     }
 }
 
-// Bytes up to a batch's end, or all of them.
-fn take_in(st: Session, chunk: &[u8]) -> Taken
-    requires { (goes_on st.stop ≡ true) × (1 ≤ length chunk.now) }
-    ensures { (1 ≤ result.used) × (result.used ≤ length chunk.now) × (result.session ≡ session_of (state_after (state_of st) (take result.used chunk.now))) }
+// Takes in bytes up to a batch's end, or all of them; answers how many.
+fn take_in(st: &mut Session, chunk: &[u8]) -> usize
+    requires { (goes_on st.old.stop ≡ true) × (1 ≤ length chunk.now) × (length st.old.held.bars ≡ places) }
+    ensures used { (1 ≤ result) × (result ≤ length chunk.now) }
+    ensures session { st.new ≡ session_of (state_after (state_of st.old) (take result chunk.now)) }
+    ensures places { length st.new.held.bars ≡ places }
 {
-    let begun = st.line;
-    let held = st.held;
-    let tally = st.tally;
-    let most = batch(held.count);
+    let most = batch(st.held.count);
     let mut prices = [0.0; 4096];
-    let got = reading::gather(begun, chunk, most, &mut prices);
+    let got = reading::gather(st.line, chunk, most, &mut prices);
     let n = 4 * got.bars;
-    let fed = feed_all(held, tally, &prices[..n]);
-    let session = settle(fed, got);
-    Taken {
-        session,
-        used: got.used,
-    }
+    let fed = feed_all(&mut st.held, st.tally, &prices[..n]);
+    settle(st, fed, got);
+    got.used
 }
 
 // Bytes of input.
@@ -134,25 +108,11 @@ pub fn absorb(st: Session, chunk: &[u8]) -> Session
     ensures { result ≡ session_of (state_after (state_of st) chunk.now) }
 {
     // the line anew, so that the session is one value also where no byte is used
-    let begun = st.line;
-    let line = lines::extend(begun, &chunk[..0]);
-    let held = st.held;
-    let tally = st.tally;
-    let stop = st.stop;
-    let mut session = Session {
-        line,
-        held,
-        tally,
-        stop,
-    };
+    let line = lines::extend(st.line, &chunk[..0]);
+    let mut session = Session { line, ..st };
     let mut used = 0usize;
-    let mut going = goes_on(stop);
-    while (used < chunk.len()) & going {
-        let taken = take_in(session, &chunk[used..]);
-        session = taken.session;
-        used += taken.used;
-        let now = session.stop;
-        going = goes_on(now);
+    while (used < chunk.len()) & session.stop.is_none() {
+        used += take_in(&mut session, &chunk[used..]);
     }
     session
 }
@@ -161,30 +121,23 @@ pub fn absorb(st: Session, chunk: &[u8]) -> Session
 fn close(st: Session) -> Session
     ensures { state_of result ≡ closed (state_of st) }
 {
-    let line = st.line;
-    let none = lines::is_empty(line);
-    if none {
+    if lines::is_empty(st.line) {
         st
     } else {
-        let feed = *b"\n";
-        absorb(st, &feed)
+        absorb(st, b"\n")
     }
 }
 
 // The tally, or the refusal.
-fn print(st: Session, out: &mut [u8]) -> usize
+fn print(st: &Session, out: &mut [u8]) -> usize
     requires { tally_room ≤ length out.old }
-    ensures { (result ≤ length out.old) × Written out.old 0 (printed (state_of st)) out.new result }
+    ensures { (result ≤ length out.old) × Written out.old 0 (printed (state_of st.now)) out.new result }
 {
-    let held = st.held;
-    let ordinal = held.count as u64 + 1;
-    let stop = st.stop;
-    let going = goes_on(stop);
-    if going {
-        let tally = st.tally;
-        output::write_tally(tally, out)
+    let ordinal = u64::from(st.held.count) + 1;
+    if st.stop.is_none() {
+        output::write_tally(&st.tally, out)
     } else {
-        print_refusal(ordinal, stop, out, 0)
+        print_refusal(ordinal, st.stop, out, 0)
     }
 }
 
@@ -194,8 +147,7 @@ pub fn end(st: Session, out: &mut [u8]) -> usize
     ensures within { result ≤ length out.old }
 {
     if ROOM <= out.len() {
-        let last = close(st);
-        print(last, out)
+        print(&close(st), out)
     } else {
         0
     }

@@ -1,16 +1,9 @@
 -- No line, or that of print_count. Assumes nothing.
-use mathlib.Core.Path.{sym}
 use native.Mathlib.Omega.{arith}
-use borrow.Author.Tests.{eq-eqb, ne_eqb}
-use Rattle.measures.proofs.Overlay.{overlay-none}
+use borrow.Author.Tests.{ne_eqb}
 use Rattle.output_lines.specs.Output.{longest_count}
 use Rattle.output_lines.proofs.OutputLaws.{written, count_most}
 use Rattle.tally_lines.proofs.output.write_cell.Goals as goal
-
-pub returns-then-count-eq0 : goal.returns-then-count-eq0
-returns-then-count-eq0 c =
-    let args = c.args in
-    rw (eq-eqb _ _ c.if-count-eq0.true) (omega arith, (omega arith, sym (overlay-none args.out.now args.at)))
 
 pub returns-else-count-eq0 : goal.returns-else-count-eq0
 returns-else-count-eq0 c =

@@ -1,4 +1,5 @@
 -- The loop's invariant: the lines of the rows passed stand at the front. Assumes nothing.
+use Prim.Native.Nat.{◌<◌}
 use mathlib.Core.List.{[]}
 use mathlib.Core.Path.{◌≡◌, refl, sym, ◌∙◌}
 use native.Mathlib.Omega.{arith}
@@ -14,24 +15,24 @@ use Rattle.tally_lines.proofs.output.write_tally.Goals as goal
 
 pub loop-k-init : goal.loop-k-init
 unfolding lines_of_tally
-loop-k-init c = (omega arith, refl, omega arith, (refl, sym (overlay-none c.args.out.now 0)))
+loop-k-init c = (refl, omega arith, (refl, sym (overlay-none c.args.out.now 0)))
 
 pub loop-k-preserved : goal.loop-k-preserved
 loop-k-preserved c =
     let loop = c.loop-k in
     let inv = loop.invariant in
     let args = c.args in
-    let tally = args.tally in
-    let all : length tally ≡ recognisers = c.well_formed.0.1.0.1 in
+    let tally = args.tally.now in
+    let inside : loop.k < length tally = omega arith in
     let lines = cell_lines loop.k 0 (get_or tally loop.k (row_of_counts [])).counts in
     let did = c.write_cells-place.ensures in
-    let on = written_on args.out.now 0 (lines_of_tally 0 (take loop.k tally)) _ _ lines _ _ (omega (arith, did.0, did.1.0, c.requires, inv.2)) inv.3 did.1 in
-    (omega arith, c.write_cells-place.auto.out ∙ inv.1, omega (arith, did.0, inv.2), rw (rows_next tally loop.k (row_of_counts []) (omega (arith, all))) on)
+    let on = written_on args.out.now 0 (lines_of_tally 0 (take loop.k tally)) _ _ lines _ _ (omega (arith, did.0, did.1.0, c.requires, inv.1)) inv.2 did.1 in
+    (c.write_cells-place.auto.out ∙ inv.0, omega (arith, did.0, inv.1), rw (rows_next tally loop.k (row_of_counts []) inside) on)
 
 pub returns : goal.returns
 returns c =
-    let tally = c.args.tally in
-    let all : length tally ≡ recognisers = c.well_formed.0.1.0.1 in
+    let tally = c.args.tally.now in
+    let all : length tally ≡ recognisers = omega arith in
     let inv = c.loop-k.invariant in
-    let done = rw (take_all c.loop-k.k tally (omega (arith, all))) at inv.3 in
-    (omega (arith, inv.2), done)
+    let done = rw (take_all c.loop-k.k tally (omega (arith, all))) at inv.2 in
+    (omega (arith, inv.1), done)

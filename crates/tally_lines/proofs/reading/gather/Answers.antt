@@ -16,59 +16,59 @@ use Rattle.input_lines.proofs.PartLaws.{to_end}
 use Rattle.tally_lines.specs.declared.reading.Gathered.{Gathered}
 use Rattle.output_lines.specs.Output.{goes_on}
 use Rattle.tally_lines.specs.Session.{read_from}
-use Rattle.tally_lines.proofs.GuardLaws.{turn-goes_on, used-some}
+use Rattle.tally_lines.proofs.GuardLaws.{none-goes_on, turn-goes_on, used-some}
 use Rattle.tally_lines.proofs.ReadLaws.{read_kept, read-turn, gathered-is, begun_kept}
 use Rattle.tally_lines.proofs.reading.gather.Goals as goal
 
-pub loop-used-init : goal.loop-used-init
+pub loop-got-init : goal.loop-got-init
 unfolding read_from prices_of
-loop-used-init c =
-    (omega arith, omega arith, refl, begun_kept c.extend-begun.result (content c.args.line ++ []) c.extend-begun.ensures, refl, refl, refl, sym (overlay-none c.args.prices.now 0), λ e. (omega (arith, c.requires.0), refl))
+loop-got-init c =
+    (omega arith, omega arith, refl, begun_kept c.extend.result (content c.args.line ++ []) c.extend.ensures, refl, refl, sym (overlay-none c.args.prices.now 0), λ e. (omega (arith, c.requires.0), refl))
 
 pub next_line-next-requires : goal.next_line-next-requires
 next_line-next-requires c =
-    let loop = c.loop-used in
+    let loop = c.loop-got in
     let chunk = c.args.chunk.now in
-    let sure = turn-goes_on loop.used (length chunk) loop.bars c.args.most loop.going c.loop-used-test.true in
-    (rw (to_end chunk loop.used, length-drop) (omega (arith, sure.0)), omega (arith, c.requires.1, sure.1, loop.invariant.2))
+    let sure = turn-goes_on loop.got.used (length chunk) loop.got.bars c.args.most _ c.loop-got-test.true in
+    (rw (to_end chunk loop.got.used, length-drop) (omega (arith, sure.0)), omega (arith, c.requires.1, sure.1, loop.invariant.2))
 
-pub overflow_add-used : goal.overflow_add-used
-overflow_add-used c =
-    let loop = c.loop-used in
+pub overflow_add-got : goal.overflow_add-got
+overflow_add-got c =
+    let loop = c.loop-got in
     let chunk = c.args.chunk.now in
-    let did = rw (to_end chunk loop.used, length-drop) at c.next_line-next.ensures.le_used in
-    let most : loop.used + c.next_line-next.result.used ≤ length chunk = omega (arith, did.1, loop.invariant.0) in
+    let did = rw (to_end chunk loop.got.used, length-drop) at c.next_line-next.ensures.le_used in
+    let most : loop.got.used + c.next_line-next.result.used ≤ length chunk = omega (arith, did.1, loop.invariant.0) in
     search rules
 
-pub loop-used-smaller : goal.loop-used-smaller
-loop-used-smaller c =
-    let loop = c.loop-used in
+pub loop-got-smaller : goal.loop-got-smaller
+loop-got-smaller c =
+    let loop = c.loop-got in
     let chunk = c.args.chunk.now in
-    let did = rw (to_end chunk loop.used, length-drop) at c.next_line-next.ensures.le_used in
+    let did = rw (to_end chunk loop.got.used, length-drop) at c.next_line-next.ensures.le_used in
     omega (arith, did.0, did.1, loop.invariant.0)
 
-pub loop-used-preserved : goal.loop-used-preserved
-loop-used-preserved c =
+pub loop-got-preserved : goal.loop-got-preserved
+loop-got-preserved c =
     let turn = c.next_line-next in
-    let loop = c.loop-used in
+    let loop = c.loop-got in
     let inv = loop.invariant in
     let chunk = c.args.chunk.now in
     let s = c.args.prices.now in
-    let first = content c.extend-begun.result in
-    let sure = turn-goes_on loop.used (length chunk) loop.bars c.args.most loop.going c.loop-used-test.true in
-    let u = loop.used in
+    let first = content c.extend.result in
+    let sure = turn-goes_on loop.got.used (length chunk) loop.got.bars c.args.most _ c.loop-got-test.true in
+    let u = loop.got.used in
     let n = turn.result.used in
     let read = read_from [] first (take u chunk) in
     let more = read_from [] read.line (take n (drop u chunk)) in
-    let begun : content loop.begun ≡ read.line = rw inv.3 (content-partial read.line) in
+    let begun : content loop.got.line ≡ read.line = rw inv.3 (content-partial read.line) in
     let did = rw (to_end chunk u, begun) at turn.ensures in
-    let still : goes_on read.stop ≡ true = rw (← inv.5, ← inv.6) sure.2 in
+    let still : goes_on read.stop ≡ true = rw (← inv.5) (none-goes_on loop.got.stop _ c.is_none.ensures ∙ sure.2) in
     let on = read-turn first chunk u n read refl still in
     let is = did.value.0 in
     let front = length-prices read.bars in
     let back = length-prices more.bars in
-    let bars : turn.result.bars ≡ loop.bars + length more.bars = ap (λ (g : Gathered). g.bars) is in
-    let joined = overlay-more s 0 (prices_of read.bars) (prices_of more.bars) (4 * loop.bars) (omega (arith, front, inv.4)) (omega (arith, back, bars, did.le_used.2, c.requires.1, sure.1)) in
+    let bars : turn.result.bars ≡ loop.got.bars + length more.bars = ap (λ (g : Gathered). g.bars) is in
+    let joined = overlay-more s 0 (prices_of read.bars) (prices_of more.bars) (4 * loop.got.bars) (omega (arith, front, inv.4)) (omega (arith, back, bars, did.le_used.2, c.requires.1, sure.1)) in
     rw on (
       omega (arith, inv.0, rw length-drop at did.le_used.1),
       omega (arith, did.le_used.2, sure.1),
@@ -76,18 +76,17 @@ loop-used-preserved c =
       ap (λ (g : Gathered). g.line) is,
       rw (length-append read.bars more.bars) (omega (arith, bars, inv.4)),
       ap (λ (g : Gathered). g.stop) is,
-      c.goes_on-going.ensures,
-      did.value.1 ∙ rw (inv.7, prices-append read.bars more.bars) joined,
+      did.value.1 ∙ rw (inv.6, prices-append read.bars more.bars) joined,
       λ e. absurd (let z : ⊥ = omega (arith, did.le_used.0) in z),
     )
 
 pub returns : goal.returns
 returns c =
-    let loop = c.loop-used in
+    let loop = c.loop-got in
     let inv = loop.invariant in
     let line = content c.args.line in
     let chunk = c.args.chunk.now in
-    let first : content c.extend-begun.result ≡ kept_line line = rw (c.extend-begun.ensures, content-partial (kept_line (line ++ [])), append-nil) in
-    let whole = rw (first, read_kept [] line (take loop.used chunk)) at inv in
-    let some : 1 ≤ loop.used = used-some loop.used (length chunk) loop.bars c.args.most loop.going c.requires.2 inv.8 c.loop-used-test.false in
-    record { le_used = (some, inv.0, inv.1); value = (gathered-is (record { line = loop.begun; used = loop.used; bars = loop.bars; stop = loop.stop }) loop.used 0 (read_from [] line (take loop.used chunk)) whole.3 refl (omega (arith, whole.4)) whole.5, whole.7) }
+    let first : content c.extend.result ≡ kept_line line = rw (c.extend.ensures, content-partial (kept_line (line ++ [])), append-nil) in
+    let whole = rw (first, read_kept [] line (take loop.got.used chunk)) at inv in
+    let some : 1 ≤ loop.got.used = used-some loop.got.used (length chunk) loop.got.bars c.args.most _ c.requires.2 (λ e. let first = inv.7 e in (first.0, sym (none-goes_on loop.got.stop _ c.is_none.ensures) ∙ ap goes_on first.1)) c.loop-got-test.false in
+    record { le_used = (some, inv.0, inv.1); value = (gathered-is loop.got loop.got.used 0 (read_from [] line (take loop.got.used chunk)) whole.3 refl (omega (arith, whole.4)) whole.5, whole.6) }

@@ -2,7 +2,7 @@
 -- Assumes nothing.
 use Prim.Native.Nat.{suc, ◌+◌, ◌≤◌}
 use mathlib.Core.List.{[], ◌++◌, append-nil}
-use mathlib.Core.Path.{◌≡◌, ap, ◌∙◌}
+use mathlib.Core.Path.{◌≡◌, sym, ap, ◌∙◌}
 use native.Mathlib.Omega.{arith}
 use borrow.Author.Rules.{rules}
 use borrow.Author.Tests.{ltb-true}
@@ -13,8 +13,10 @@ use Rattle.input_lines.specs.Lines.{content, kept_line, partial_of}
 use Rattle.input_lines.proofs.LineLaws.{content-partial}
 use Rattle.input_lines.proofs.PartLaws.{to_end}
 use Rattle.input_lines.proofs.RunLaws.{both}
+use Rattle.output_lines.specs.Output.{goes_on}
 use Rattle.tally_lines.specs.declared.session.Session.{Session}
 use Rattle.tally_lines.specs.Session.{State, state_of, session_of, state_after}
+use Rattle.tally_lines.proofs.GuardLaws.{none-goes_on}
 use Rattle.tally_lines.proofs.SessionLaws.{taken-append, state-session, session-stays, rest-left}
 use Rattle.tally_lines.proofs.session.absorb.Goals as goal
 
@@ -22,45 +24,46 @@ pub loop-used-init : goal.loop-used-init
 loop-used-init c =
     let args = c.args in
     let st : Session = record { line = c.extend-line.result; held = args.st.held; tally = args.st.tally; stop = args.st.stop } in
-    (omega arith, session-stays st (content args.st.line ++ []) c.extend-line.ensures, c.goes_on-going.ensures)
+    let full : length st.held.bars ≡ 64 = c.well_formed.0.1.1.1.0.1.1.1.1.0.1.0.1 in
+    (omega arith, session-stays st (content args.st.line ++ []) c.extend-line.ensures, full)
 
-pub take_in-taken-requires : goal.take_in-taken-requires
-take_in-taken-requires c =
+pub take_in-used-requires : goal.take_in-used-requires
+take_in-used-requires c =
     let loop = c.loop-used in
     let chunk = c.args.chunk.now in
     let sure = both _ _ c.loop-used-test.true in
-    (rw (← loop.invariant.2) sure.1, rw (to_end chunk loop.used, length-drop) (omega (arith, ltb-true loop.used (length chunk) sure.0)))
+    (none-goes_on loop.session.stop _ c.is_none.ensures ∙ sure.1, rw (to_end chunk loop.used, length-drop) (omega (arith, ltb-true loop.used (length chunk) sure.0)), loop.invariant.2)
 
 pub overflow_add-used : goal.overflow_add-used
 overflow_add-used c =
-    let turn = c.take_in-taken in
+    let turn = c.take_in-used in
     let loop = c.loop-used in
     let chunk = c.args.chunk.now in
-    let did = rw (to_end chunk loop.used, length-drop) at turn.ensures in
-    let most : loop.used + turn.result.used ≤ length chunk = omega (arith, did.1, loop.invariant.0) in
+    let did = rw (to_end chunk loop.used, length-drop) at turn.ensures.used in
+    let most : loop.used + turn.result ≤ length chunk = omega (arith, did.1, loop.invariant.0) in
     search rules
 
 pub loop-used-smaller : goal.loop-used-smaller
 loop-used-smaller c =
-    let turn = c.take_in-taken in
+    let turn = c.take_in-used in
     let loop = c.loop-used in
     let chunk = c.args.chunk.now in
-    let did = rw (to_end chunk loop.used, length-drop) at turn.ensures in
+    let did = rw (to_end chunk loop.used, length-drop) at turn.ensures.used in
     omega (arith, did.0, did.1, loop.invariant.0)
 
 pub loop-used-preserved : goal.loop-used-preserved
 loop-used-preserved c =
-    let turn = c.take_in-taken in
+    let turn = c.take_in-used in
     let loop = c.loop-used in
     let inv = loop.invariant in
     let args = c.args in
     let chunk = args.chunk.now in
     let s : State = record { line = content c.extend-line.result; box = args.st.held; tally = args.st.tally; stop = args.st.stop } in
     let u = loop.used in
-    let n = turn.result.used in
+    let n = turn.result in
     let here : state_of loop.session ≡ state_after s (take u chunk) = rw inv.1 (state-session (state_after s (take u chunk))) in
     let did = rw (to_end chunk u, here) at turn.ensures in
-    (omega (arith, inv.0, rw length-drop at did.1), rw (take-add u n chunk, taken-append s (take u chunk) (take n (drop u chunk))) did.2, c.goes_on-going-in-loop-used.ensures)
+    (omega (arith, inv.0, rw length-drop at did.used.1), rw (take-add u n chunk, taken-append s (take u chunk) (take n (drop u chunk))) did.session, did.places)
 
 pub returns : goal.returns
 returns c =
@@ -76,4 +79,4 @@ returns c =
     let kept : content extended.result ≡ s.line = rw (took, content-partial (kept_line (s.line ++ [])), append-nil) (take_all (suc longest_line) s.line short) in
     let is : loop.session ≡ session_of (state_after s (take loop.used chunk)) = rw kept at inv.1 in
     let stop : loop.session.stop ≡ (state_after s (take loop.used chunk)).stop = ap (λ (st : Session). st.stop) is in
-    is ∙ ap session_of (rest-left s chunk loop.used loop.going inv.0 (rw stop at inv.2) c.loop-used-test.false)
+    is ∙ ap session_of (rest-left s chunk loop.used _ inv.0 (sym (none-goes_on loop.session.stop _ c.is_none.ensures) ∙ ap goes_on stop) c.loop-used-test.false)

@@ -8,5 +8,5 @@ use Rattle.tally_lines.proofs.session.begin.Goals as goal
 
 pub returns : goal.returns
 returns c =
-    let box : c.make-made.result.after ≡ fresh_box standard_set = rw (c.make-made.ensures.answer, c.standard-standard.ensures) (made-valid standard_set standard-valid) in
-    rw (c.begin-line.ensures, box, c.fresh-tally.ensures)
+    let box : c.make-made.result.after ≡ fresh_box standard_set = rw (c.make-made.ensures.answer, c.standard.ensures) (made-valid standard_set standard-valid) in
+    rw (c.begin.ensures, box, c.fresh.ensures)

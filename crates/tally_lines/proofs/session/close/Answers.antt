@@ -3,12 +3,12 @@ use Rattle.tally_lines.specs.Session.{closed}
 use Rattle.tally_lines.proofs.SessionLaws.{state-session}
 use Rattle.tally_lines.proofs.session.close.Goals as goal
 
-pub returns-then-none : goal.returns-then-none
+pub returns-then-is_empty : goal.returns-then-is_empty
 unfolding closed
-returns-then-none c = rw (← c.is_empty-none.ensures, c.if-none.true)
+returns-then-is_empty c = rw (← c.is_empty.ensures, c.if-is_empty.true)
 
-pub returns-else-none : goal.returns-else-none
+pub returns-else-is_empty : goal.returns-else-is_empty
 unfolding closed
-returns-else-none c =
+returns-else-is_empty c =
     let args = c.args in
-    rw (← c.is_empty-none.ensures, c.if-none.false, c.absorb.ensures) (state-session _)
+    rw (← c.is_empty.ensures, c.if-is_empty.false, c.absorb.ensures) (state-session _)

@@ -8,7 +8,7 @@ use Rattle.tally_lines.proofs.session.end.Goals as goal
 
 pub returns-then-out-ge-ROOM : goal.returns-then-out-ge-ROOM
 returns-then-out-ge-ROOM c =
-    let says = ap printed c.close-last.ensures in
+    let says = ap printed c.close.ensures in
     let did = rw says at c.print.ensures in
     record { printed = rw (le-leb _ _ c.if-out-ge-ROOM.true) did.1; within = did.0 }
 
