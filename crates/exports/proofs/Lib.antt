@@ -1,4 +1,3 @@
 -- The laws that the functions' proofs cite.
 pub mod NumberLaws
 pub mod MakingLaws
-pub mod TallyLaws

@@ -1,7 +1,7 @@
 -- A making and calls to the layer that it gives: where the making is refused no call is made.
 use Rattle.std.specs.Prelude.{ℕ, List, Float}
 use Rattle.recognisers.specs.Refusal.{leaves}
-use Rattle.terms.specs.declared.layers.Taken.{Taken}
+use Rattle.terms.specs.Layer.{Taken}
 use Rattle.term_calls.specs.Numbers.{written_to}
 use Rattle.term_calls.specs.TermCalls.{answers_of, sheet_through}
 

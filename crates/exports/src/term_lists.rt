@@ -12,7 +12,8 @@ use term_calls::{hours_of, make_calls};
 
 // Makes a layer and calls of these sizes to it: 0 is a close, any other number a run of that many of the bars that are left. The answer is
 // 0, or the number of the making's refusal, which leaves sheet and answers; each call's answer is how many rows it filled, behind those
-// of the calls before it, or 16,777,216 plus its refusal. Hours have two numbers to a window.
+// of the calls before it, or 16,777,216 plus its refusal. Hours have two numbers to a window. The thresholds are thirteen
+// parameters, since C passes them so.
 #[unsafe(no_mangle)]
 pub extern "C" fn jcc_terms(
     th0: f64,
@@ -48,8 +49,7 @@ pub extern "C" fn jcc_terms(
     let made = terms::make(t, hours_of(hours), minutes);
     let verdict = made.verdict;
     if let Ok(()) = verdict {
-        let l = made.after;
-        make_calls(l, sizes, prices, stamps, sheet, answers);
+        make_calls(made.after, sizes, prices, stamps, sheet, answers);
     }
     u32::from(verdict_number(verdict))
 }

@@ -24,8 +24,8 @@ behind xs now then (inr (rows, ordinal, place, a, b)) = inr (xs ++ rows, ordinal
 same-prints : (h : List Bar) (lines : List Line) → Same (history_prints h lines) (history_prints h (map by8 lines))
 unfolding lines_print
 same-prints h [] = inl refl
-same-prints h ((Err BadShape) ∷ lines) = inl refl
-same-prints h (BadPrice place ∷ lines) = inr ([], length h + 1, place, refl, refl)
+same-prints h (Err BadShape ∷ lines) = inl refl
+same-prints h (Err (BadPrice place) ∷ lines) = inr ([], length h + 1, place, refl, refl)
 same-prints h (Ok bar ∷ lines) = go (ltb (length h) most_bars) _ (same-prints (h ++ (bar ∷ [])) lines)
   where
     go : (t : Bool) (end : List ℕ) → let more = h ++ (bar ∷ []) in

@@ -22,8 +22,8 @@ lines_print each end history (Ok bar ∷ lines) =
     cond (ltb (length history) most_bars)
     (each (history ++ (bar ∷ [])) ++ lines_print each end (history ++ (bar ∷ [])) lines)
     (refusal_line (length history + 1) (Some (By refusal.TooManyBars)))
-lines_print each end history ((Err BadShape) ∷ lines) = refusal_line (length history + 1) (Some (By refusal.BadShape))
-lines_print each end history (BadPrice place ∷ lines) = refusal_line (length history + 1) (Some (Price place))
+lines_print each end history (Err BadShape ∷ lines) = refusal_line (length history + 1) (Some (By refusal.BadShape))
+lines_print each end history (Err (BadPrice place) ∷ lines) = refusal_line (length history + 1) (Some (Price place))
 
 -- this program prints the rows of each bar, over the history up to it
 abbrev pub history_prints : List Bar → List Line → List ℕ

@@ -8,7 +8,7 @@ use Rattle.recognisers.specs.Number.{row_bytes}
 use Rattle.recognisers.specs.Threshold.{standard_set}
 use Rattle.box_record.specs.declared.boxes.BarBox.{BarBox}
 use Rattle.bar_box.specs.Box.{fresh_box, fed_of, sheet_of}
-use Rattle.text.specs.declared.line_text.LineError.TheVariants.{BadShape, BadPrice}
+use Rattle.text.specs.declared.line_text.LineError.{LineError, TheVariants.BadShape, TheVariants.BadPrice}
 use Rattle.text.specs.LineText.{Line, line_of}
 use Rattle.input_lines.specs.Lines.{lines_of}
 use Rattle.output_lines.specs.declared.output.Stop.{Stop, TheVariants.By, TheVariants.Price}
@@ -36,11 +36,15 @@ unfoldable pub fed_step : BarBox → Bar → Step
 fed_step b bar =
     judged_of (fed_of b (prices_of (bar ∷ [])) row_bytes).verdict b (sheet_of b (prices_of (bar ∷ [])) (replicate row_bytes 0)) (fed_of b (prices_of (bar ∷ [])) row_bytes).after
 
+-- what a line that is no bar is refused by
+abbrev pub stop_by : LineError → Stop
+stop_by BadShape = By refusal.BadShape
+stop_by (BadPrice place) = Price place
+
 -- a line is read as text first, then fed as one bar
 abbrev pub read_step : BarBox → Line → Step
 read_step b (Ok bar) = fed_step b bar
-read_step b (Err BadShape) = refused_step b (By refusal.BadShape)
-read_step b (Err (BadPrice place)) = refused_step b (Price place)
+read_step b (Err why) = refused_step b (stop_by why)
 
 unfoldable pub line_step : BarBox → List ℕ → Step
 line_step b line = read_step b (line_of line)

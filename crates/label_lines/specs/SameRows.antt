@@ -13,8 +13,8 @@ use Rattle.label_lines.specs.History.{history_prints}
 -- a line of which it is said no more than 8
 abbrev pub by8 : Line → Line
 by8 (Ok bar) = Ok bar
-by8 (Err BadShape) = (Err BadShape)
-by8 (Err (BadPrice place)) = (Err BadShape)
+by8 (Err BadShape) = Err BadShape
+by8 (Err (BadPrice place)) = Err BadShape
 
 -- the same, or the same up to the refusal of the same line, which has a bad price
 abbrev pub Same : List ℕ → List ℕ → Type 0

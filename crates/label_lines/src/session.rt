@@ -3,7 +3,7 @@ ghost use Rattle.std.specs.Prelude.{◌≡◌, false, ◌+◌, ◌-◌, ◌≤�
 ghost use Rattle.measures.specs.Bar.{overlay};
 ghost use Rattle.input_lines.specs.Lines.{content};
 ghost use Rattle.output_lines.specs.Output.{line_room, line_in, Written};
-ghost use Rattle.label_lines.specs.Output.{refused_step, fed_step, line_step};
+ghost use Rattle.label_lines.specs.Output.{refused_step, fed_step, stop_by, line_step};
 ghost use Rattle.label_lines.specs.Session.{state_of, session_of, fresh_state, state_after, prints, used_of, taken_bytes, absorbed_of, end_prints};
 ghost use Rattle.label_lines.specs.SessionSteps.{Takes};
 
@@ -90,6 +90,16 @@ fn feed_bar(held: &mut BarBox, bar: Bar, out: &mut [u8], at: usize) -> Stepped
     }
 }
 
+// What a line that is no bar is refused by.
+fn stop_by(why: LineError) -> Stop
+    ensures { result ≡ stop_by why }
+{
+    match why {
+        LineError::BadShape => Stop::By(Refusal::BadShape),
+        LineError::BadPrice(place) => Stop::Price(place),
+    }
+}
+
 // The end of a line.
 fn step(held: &mut BarBox, line: Partial, out: &mut [u8], at: usize) -> Stepped
     requires { at + line_room ≤ length out.old }
@@ -97,8 +107,7 @@ fn step(held: &mut BarBox, line: Partial, out: &mut [u8], at: usize) -> Stepped
 {
     match read_partial(line) {
         Ok(bar) => feed_bar(held, bar, out, at),
-        Err(LineError::BadShape) => refuse(held, Stop::By(Refusal::BadShape), out, at),
-        Err(LineError::BadPrice(place)) => refuse(held, Stop::Price(place), out, at),
+        Err(why) => refuse(held, stop_by(why), out, at),
     }
 }
 

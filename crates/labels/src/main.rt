@@ -6,32 +6,20 @@ use label_lines::{Session, session};
 use std::io;
 use std::io::{Read, Write};
 
-// The session after some bytes of input, and whether to go on: no line was refused, and all that was printed could be written.
-#[derive(Clone, Copy)]
-struct Pumped {
-    session: Session,
-    goes_on: bool,
-}
-
-// Takes the bytes in and writes what they print, before more input is waited for.
-fn pump(st: Session, chunk: &[u8], output: &mut impl Write) -> Pumped {
+// Takes the bytes in and writes what they print, before more input is waited for. The session goes on if no line was refused and all that was
+// printed could be written.
+fn pump(st: Session, chunk: &[u8], output: &mut impl Write) -> Option<Session> {
     let mut out = [0u8; 65536];
     let mut now = st;
     let mut at = 0usize;
-    let mut goes_on = !st.stopped;
-    while (at < chunk.len()) & goes_on {
+    // no `for`: each turn takes as many bytes as the buffer has room for
+    while (at < chunk.len()) & !now.stopped {
         let taken = session::absorb(now, &chunk[at..], &mut out);
-        let next = taken.session;
-        let n = taken.written;
-        let wrote = output.write_all(&out[..n]).is_ok();
-        goes_on = wrote & !next.stopped;
+        output.write_all(&out[..taken.written]).ok()?;
         at += taken.used;
-        now = next;
+        now = taken.session;
     }
-    Pumped {
-        session: now,
-        goes_on,
-    }
+    if now.stopped { None } else { Some(now) }
 }
 
 // The input's end.
@@ -43,22 +31,14 @@ fn finish(st: Session, output: &mut impl Write) {
 
 // What one read brings: nothing at the input's end, where the line that has begun ends. A read that fails ends the program, and the line
 // that has begun is not judged.
-fn read_some(st: Session, input: &mut impl Read, output: &mut impl Write) -> Pumped {
+fn read_some(st: Session, input: &mut impl Read, output: &mut impl Write) -> Option<Session> {
     let mut buf = [0u8; 65536];
-    match input.read(&mut buf) {
-        Err(_) => Pumped {
-            session: st,
-            goes_on: false,
-        },
-        Ok(0) => {
-            finish(st, output);
-            Pumped {
-                session: st,
-                goes_on: false,
-            }
-        }
-        Ok(n) => pump(st, &buf[..n], output),
+    let n = input.read(&mut buf).ok()?;
+    if n == 0 {
+        finish(st, output);
+        return None;
     }
+    pump(st, &buf[..n], output)
 }
 
 // As many turns as no run uses up: a proved loop has to end, and nothing says that the input does.
@@ -66,13 +46,10 @@ fn main(rt: HostRuntime) {
     let mut input = rt.reader();
     let mut output = io::writer(&rt);
     let mut st = session::begin();
-    let mut goes_on = true;
     for _ in 0..u64::MAX {
-        if !goes_on {
-            break;
-        }
-        let read = read_some(st, &mut input, &mut output);
-        st = read.session;
-        goes_on = read.goes_on;
+        let Some(next) = read_some(st, &mut input, &mut output) else {
+            return;
+        };
+        st = next;
     }
 }

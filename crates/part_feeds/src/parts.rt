@@ -8,7 +8,7 @@ ghost use Rattle.tallies.specs.Feed.{lent, verdict_with, tallied_of, tallied_she
 use bar_box::BarBox;
 use measures::least;
 use recognisers::Refusal;
-use recognisers::counts::{RECOGNISERS, ROW_BYTES};
+use recognisers::counts::{PLACES, RECOGNISERS, ROW_BYTES};
 use tallies::TallyRow;
 use tallies::feeds::tally_verdict;
 
@@ -48,8 +48,8 @@ fn take_parts(
         let one = tallied_of b.old tally f in
         (result ≡ answered one.verdict (cond counts one.tally tally)) × (b.new ≡ one.after) × (sheet.new ≡ tallied_sheet b.old tally f) }
 {
-    // read for the proof, which is then told how many places a box has
-    let _first = b.bars[0].ordinal;
+    // the proof is told how many places the box has
+    prove!(b.bars[..].len() == PLACES);
     let total = measures::count(prices);
     let mut table = tally;
     let mut done = 0usize;

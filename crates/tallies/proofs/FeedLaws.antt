@@ -1,5 +1,5 @@
 -- A feed with a tally beside one without: its verdict, and what an accepted one leaves. Assumes nothing.
-use Rattle.std.specs.Prelude.{Result, Err, Ok}
+use Rattle.std.specs.Prelude.{Err, Ok}
 use Rattle.answers.specs.Refusal.{Verdict}
 use Prim.Native.Nat.{ℕ, ◌+◌, ◌*◌}
 use mathlib.Core.Bool.{true}
@@ -77,8 +77,3 @@ module _ (b : BarBox) (tally : List TallyRow) (f : Feed) where
 pub verdict-answered : (v : Verdict) (tally : List TallyRow) → verdict_in (answered v tally) ≡ v
 verdict-answered (Ok tt) tally = refl
 verdict-answered (Err r) tally = refl
-
--- the table in an answer
-pub answered-table : (v : Verdict) (s t : List TallyRow) (x : Result (List TallyRow) Refusal) → x ≡ Ok s → x ≡ answered v t → s ≡ t
-answered-table (Ok tt) s t x is told = cc
-answered-table (Err r) s t x is told = cc

@@ -12,13 +12,6 @@ use std::io;
 use std::io::{Read, Write};
 use tally_lines::{Session, session};
 
-// The session after a read, and whether there is more to read.
-#[derive(Clone, Copy)]
-struct Turn {
-    session: Session,
-    goes_on: bool,
-}
-
 // The tally, or the refusal.
 fn finish(st: Session, output: &mut impl Write) {
     let mut out = [0u8; 65536];
@@ -27,23 +20,15 @@ fn finish(st: Session, output: &mut impl Write) {
 }
 
 // What one read brings. Nothing is printed before the input's end or a refused line; a read that fails ends the program without a word.
-fn read_some(st: Session, input: &mut impl Read, output: &mut impl Write) -> Turn {
+fn read_some(st: Session, input: &mut impl Read, output: &mut impl Write) -> Option<Session> {
     let mut buf = [0u8; 65536];
-    let Ok(n) = input.read(&mut buf) else {
-        return Turn {
-            session: st,
-            goes_on: false,
-        };
-    };
+    let n = input.read(&mut buf).ok()?;
     let next = session::absorb(st, &buf[..n]);
-    let stop = next.stop;
-    let goes_on = goes_on(stop) & (0 < n);
-    if !goes_on {
+    if goes_on(next.stop) & (0 < n) {
+        Some(next)
+    } else {
         finish(next, output);
-    }
-    Turn {
-        session: next,
-        goes_on,
+        None
     }
 }
 
@@ -52,13 +37,10 @@ fn main(rt: HostRuntime) {
     let mut input = rt.reader();
     let mut output = io::writer(&rt);
     let mut st = session::begin();
-    let mut goes_on = true;
     for _ in 0..u64::MAX {
-        if !goes_on {
-            break;
-        }
-        let turn = read_some(st, &mut input, &mut output);
-        st = turn.session;
-        goes_on = turn.goes_on;
+        let Some(next) = read_some(st, &mut input, &mut output) else {
+            return;
+        };
+        st = next;
     }
 }

@@ -35,8 +35,12 @@ call-front n some ps ss sheet p-end s-end is-p is-s =
     rw (call-run n ps ss sheet some, take_same ps p-end (4 * n) (omega arith), take_same ss s-end n (omega arith))
 
 -- a list from a place on, as a slice has it
-pub rest-is : {A : Type 0} (xs : List A) (at : ℕ) → take (length xs - at) (drop at xs) ≡ drop at xs
+rest-is : {A : Type 0} (xs : List A) (at : ℕ) → take (length xs - at) (drop at xs) ≡ drop at xs
 rest-is xs at = take_all (length xs - at) (drop at xs) (omega (arith, length-drop at xs))
+
+pub lent-is : (n : ℕ) (ps : List Float) (ss sheet : List ℕ) (p s at : ℕ)
+    → call_of n (take (length ps - p) (drop p ps)) (take (length ss - s) (drop s ss)) (take (length sheet - at) (drop at sheet)) ≡ call_of n (drop p ps) (drop s ss) (drop at sheet)
+lent-is n ps ss sheet p s at = rw (rest-is ps p, rest-is ss s, rest-is sheet at)
 
 -- an answer as a number
 answer-told : (v : Verdict) (rows : ℕ) → answer_in (rows_by v rows) ≡ answer_by v rows

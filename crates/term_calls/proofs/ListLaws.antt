@@ -5,11 +5,11 @@ use mathlib.Core.List.{List, [], ◌∷◌, ◌++◌, append-nil}
 use native.Mathlib.Omega.{arith}
 use native.Mathlib.Decide.{dec_lt}
 use borrow.Rule.Slice.PartMut.{put_mid}
-use lib.ListN.{length, take, drop, length-take, length-drop, drop_of_length-le}
+use lib.ListN.{length, take, drop, length-append, length-take, length-drop, drop_of_length-le}
 use lib.Seq.{take_all, take-add, take_at, drop_at, drop-drop, length-take-le}
 use Rattle.measures.specs.Bar.{overlay}
 use Rattle.measures.proofs.Overlay.{overlay-none, overlay-more}
-use Rattle.bar_box.proofs.BoxLaws.{take_same, drop-same}
+use Rattle.bar_box.proofs.BoxLaws.{drop-same}
 
 module _ {A : Type 0} where
   -- what is left behind an end that is no later than the list's
@@ -19,6 +19,9 @@ module _ {A : Type 0} where
   -- another rest in the place of a list's
   pub put_rest : (xs : List A) (at : ℕ) (ys : List A) → put_mid at (length xs - at) xs ys ≡ take at xs ++ ys
   put_rest xs at ys = rw (drop_of_length-le (drop at xs) {i = length xs - at} (omega (arith, length-drop at xs)), append-nil ys)
+
+  pub put_size : (xs : List A) (at : ℕ) (ys : List A) → at ≤ length xs → length ys ≡ length (take (length xs - at) (drop at xs)) → length (put_mid at (length xs - at) xs ys) ≡ length xs
+  put_size xs at ys le size = rw (put_rest xs at ys, length-append) (omega (arith, length-take-le at xs le, size, length-take (length xs - at) (drop at xs), length-drop at xs))
 
   -- a front and what stands behind it, cut k elements further on
   pub front-more : (xs ys : List A) (at k : ℕ) → at ≤ length xs → take (at + k) (take at xs ++ ys) ≡ take at xs ++ take k ys

@@ -30,7 +30,7 @@ fn window_of(numbers: &[u32], i: usize) -> DayWindow
     }
 }
 
-// The hours with these numbers.
+// The hours with these numbers. The four places are written out: `array::from_fn` over them is no shorter.
 pub fn hours_of(numbers: &[u32]) -> Hours
     ensures { result ≡ hours_in numbers.now }
 {
@@ -45,7 +45,8 @@ pub fn hours_of(numbers: &[u32]) -> Hours
     }
 }
 
-// The answer to a call as a number.
+// The answer to a call as a number. `answers::answer_number` has another base and another value, so that one function over both would take more than
+// the `match` says.
 fn answer_number(answer: Result<usize, Refusal>) -> u32
     requires { result_unwrap_or answer 0 ≤ most_bars }
     ensures { result ≡ answer_in answer }

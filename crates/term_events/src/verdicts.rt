@@ -1,5 +1,5 @@
-// Why a making, a run or a close is refused. Hours, term length and what is carried come one by one, as callers hand them to the public functions: a
-// struct for the others alone would be made and taken apart again in each.
+// Why a making, a run or a close is refused. Hours, term length and what is carried come one by one, here and in `events::pass`, as callers hand them
+// to the public functions: a struct for the private ones alone would be made and taken apart again in each.
 ghost use Rattle.std.specs.Prelude.{◌≡◌};
 ghost use Rattle.recognisers.specs.Refusal.{first_true};
 ghost use Rattle.term_events.specs.Verdicts.{sound_carried, valid_layer, above, stamps_tried, make_verdict, run_verdict, close_verdict};

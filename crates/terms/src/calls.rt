@@ -49,6 +49,7 @@ fn take_bars(l: &mut Layer, prices: &[f64], stamps: &[u32], sheet: &mut [u8]) ->
     let mut run = [0.0; 4 * ROOM_BARS];
     let mut rows = 0usize;
     let mut done = 0usize;
+    // a part ends where the next one begins: no `for` steps so
     while done < stamps.len() {
         let part = term_events::pass(
             l.hours, l.minutes, l.carried, prices, stamps, done, &mut run,

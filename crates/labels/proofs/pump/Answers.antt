@@ -1,6 +1,5 @@
 -- Each turn uses some bytes, since the session has not stopped and the buffer has room. Assumes nothing.
 use Prim.Native.Nat.{ℕ, ◌+◌, ◌-◌, ◌≤◌, ◌<◌}
-use mathlib.Core.Bool.{not}
 use mathlib.Core.List.{List}
 use mathlib.Core.Path.{◌≡◌, ap, ◌∙◌}
 use native.Mathlib.Omega.{arith}
@@ -44,7 +43,7 @@ loop-at-smaller g c =
     let test = both _ _ c.loop-at-test.true in
     let inside = ltb-true loop.at (length chunk) test.0 in
     let used = ap (λ (a : Absorbed). a.used) call.ensures.answer in
-    let some : 1 ≤ call.result.used = rw used (used-some _ _ _ (inv.2 test.1) (rest_some chunk loop.at inside) (omega (arith, inv.1))) in
+    let some : 1 ≤ call.result.used = rw used (used-some _ _ _ (not-true _ test.1) (rest_some chunk loop.at inside) (omega (arith, inv.1))) in
     omega (arith, some, most, inside)
 
 pub loop-at-preserved : goal.loop-at-preserved
@@ -54,4 +53,4 @@ loop-at-preserved g c =
     let chunk = c.args.chunk.now in
     let call = c.absorb-taken in
     let most = within chunk loop.at call.result.used inv.0 _ _ (ap (λ (a : Absorbed). a.used) call.ensures.answer) in
-    (most, call.auto.out ∙ inv.1, λ e. not-true call.result.session.stopped (both c.is_ok-wrote.result (not call.result.session.stopped) e).1)
+    (most, call.auto.out ∙ inv.1)

@@ -1,17 +1,14 @@
 -- The loop's invariant: the numbers passed are written. Assumes nothing.
 use Prim.Native.Nat.{◌<◌}
-use mathlib.Core.Path.{refl, sym, ◌∙◌}
+use mathlib.Core.Path.{◌∙◌}
 use native.Mathlib.Omega.{arith}
 use lib.ListN.{length, length-set}
-use Rattle.measures.proofs.Overlay.{overlay-none, overlay-copy}
+use Rattle.measures.proofs.Overlay.{overlay-copy}
 use Rattle.bar_box.proofs.BoxLaws.{take_same}
 use Rattle.tallies.specs.Count.{cells}
 use Rattle.exports.specs.Tally.{numbers_of}
 use Rattle.exports.proofs.NumberLaws.{length-numbers, number_of}
 use Rattle.exports.proofs.tally.put.Goals as goal
-
-pub loop-i-init : goal.loop-i-init
-loop-i-init c = (refl, sym (overlay-none c.args.numbers.now 0))
 
 pub loop-i-preserved : goal.loop-i-preserved
 loop-i-preserved c =

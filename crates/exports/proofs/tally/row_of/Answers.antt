@@ -1,11 +1,9 @@
 -- The loop's invariant: the counts passed have their numbers. Assumes nothing.
 use Prim.Native.Nat.{ℕ, ◌+◌, ◌*◌, ◌<◌}
-use mathlib.Core.List.{append-nil}
 use mathlib.Core.Path.{◌≡◌, refl, ◌∙◌}
 use native.Mathlib.Nat.{zero-add}
 use native.Mathlib.Omega.{arith}
-use lib.ListN.{length, get_or, replicate, length-replicate, get_or-replicate, drop_of_length-le}
-use lib.Seq.{take_all}
+use lib.ListN.{length, get_or, replicate, length-replicate, get_or-replicate}
 use Rattle.recognisers.specs.Number.{labels}
 use Rattle.tallies.specs.Tally.{by_place}
 use Rattle.tallies.proofs.PlaceLaws.{changed-next}
@@ -25,10 +23,3 @@ loop-c-preserved c =
     let change : ℕ → ℕ → ℕ = λ i count. count + get_or numbers (labels * k + i) 0 in
     let number : c.number_at.result ≡ change i (get_or zeros i 0) = c.number_at.ensures ∙ rw (get_or-replicate {A = ℕ} labels i 0 0 (omega arith), zero-add) in
     rw (c.loop-c.invariant, number) (changed-next change zeros i 0 inside)
-
-pub returns : goal.returns
-returns c =
-    let inv = c.loop-c.invariant in
-    let all : c.loop-c.c ≡ labels = omega arith in
-    let zeros = replicate {A = ℕ} labels 0 in
-    rw (all, take_all labels zeros (omega (arith, length-replicate {A = ℕ} labels 0)), drop_of_length-le zeros {i = labels} (omega (arith, length-replicate {A = ℕ} labels 0)), append-nil) at inv

@@ -12,8 +12,8 @@ use Rattle.label_lines.specs.Session.{state_of}
 use Rattle.label_lines.proofs.SessionLaws.{end-prints, end_quiet}
 use Rattle.label_lines.proofs.session.end.Goals as goal
 
-pub step-stepped-requires : goal.step-stepped-requires
-step-stepped-requires c =
+pub step-requires : goal.step-requires
+step-requires c =
     let args = c.args in
     let sure = both _ _ (both _ _ c.if-out-st.true).0 in
     omega (arith, leb-true line_room (length args.out.now) sure.0)
@@ -25,7 +25,7 @@ returns-then-out-st c =
     let sure = both _ _ all.0 in
     let some = sym c.is_empty-none.ensures ∙ not-true c.is_empty-none.result all.1 in
     let is = end-prints (state_of args.st) (not-true args.st.stopped sure.1) some in
-    let did = c.step-stepped.ensures in
+    let did = c.step.ensures in
     let room : leb line_room (length args.out.now) ≡ true = sure.0 in
     record { printed = rw (room, is) did.3; within = omega (arith, did.2, leb-true line_room (length args.out.now) room) }
 

@@ -8,5 +8,5 @@ use Rattle.label_lines.proofs.session.refuse.Goals as goal
 pub returns : goal.returns
 returns c =
     let args = c.args in
-    let wrote = c.print_refusal-end.ensures in
+    let wrote = rw c.from-ordinal.ensures at c.print_refusal-at.ensures in
     (refl, refl, omega (arith, wrote.within), written longest_refusal _ args.out.now args.at _ _ (omega arith) wrote.printed)

@@ -1,10 +1,8 @@
 -- The loop's invariant: the counts passed have gained their numbers. Assumes nothing.
 use Prim.Native.Nat.{ℕ, ◌+◌, ◌*◌, ◌<◌}
-use mathlib.Core.List.{append-nil}
-use mathlib.Core.Path.{◌≡◌, refl}
+use mathlib.Core.Path.{refl}
 use native.Mathlib.Omega.{arith}
-use lib.ListN.{length, get_or, drop_of_length-le}
-use lib.Seq.{take_all}
+use lib.ListN.{length, get_or}
 use Rattle.recognisers.specs.Number.{labels}
 use Rattle.tallies.specs.Tally.{by_place}
 use Rattle.tallies.proofs.PlaceLaws.{changed-at, changed-next}
@@ -30,9 +28,3 @@ loop-c-preserved c =
     let inside : c.loop-c.c < length counts = omega (arith, c.loop-c.invariant.0) in
     let change : ℕ → ℕ → ℕ = λ i count. count + get_or numbers (labels * k + i) 0 in
     (c.loop-c.invariant.0, rw (c.loop-c.invariant.1, changed-at change counts c.loop-c.c 0 inside) (changed-next change counts c.loop-c.c 0 inside))
-
-pub returns : goal.returns
-returns c =
-    let inv = c.loop-c.invariant in
-    let all : c.loop-c.c ≡ labels = omega arith in
-    rw (all, take_all labels c.args.row.counts (omega (arith, inv.0)), drop_of_length-le c.args.row.counts {i = labels} (omega (arith, inv.0)), append-nil) at inv.1

@@ -1,8 +1,7 @@
 -- Assumes nothing.
-use Rattle.std.proofs.Common.{[], length, ◌<◌, refl, ◌∙◌, arith, below_more}
+use Rattle.std.proofs.Common.{[], length, ◌<◌, refl, arith, below_more}
 use native.Mathlib.Nat.{not-suc-le-zero}
 use lib.Dec.{eqb}
-use lib.Seq.{take_all}
 use Rattle.std.proofs.lemmas.List.Folds.{list_all_more}
 use Rattle.tallies.specs.declared.table.TallyRow.{TallyRow}
 use Rattle.tallies.specs.Tally.{row_of_counts, total_of, adds_up}
@@ -18,8 +17,3 @@ loop-row-preserved c =
     let i = c.loop-row.row-index in
     let within : i < length c.args.tally.now = omega arith in
     (rw (list_all_more (λ (row : TallyRow). eqb (total_of row.counts) c.args.n) c.args.tally.now i (row_of_counts []) within, c.total.ensures.0, c.from.ensures, c.loop-row.invariant.0), below_more _ _ c.loop-row.invariant.1 c.total.ensures.1)
-
-pub returns : goal.returns
-returns c =
-    let inv = c.loop-row.invariant in
-    (inv.0 ∙ rw (take_all c.loop-row.row-index c.args.tally.now (omega arith)), (c.told-tally, λ j h. inv.1 j (omega arith)))

@@ -12,4 +12,4 @@ returns-in-Ok c =
 pub returns-in-Err : goal.returns-in-Err
 returns-in-Err c =
     let v = sym c.make_verdict-verdict.ensures ∙ c.in-Err.is in
-    rw (made-bad c.args.t c.args.h c.args.m _ v) record { after = c.fresh-after-in-Err.ensures ∙ rw (c.standard.ensures, c.whole_day.ensures); verdict = c.in-Err.is; number = ap verdict_number c.make_verdict-verdict.ensures }
+    rw (made-bad c.args.t c.args.h c.args.m _ v) record { after = cc; verdict = c.in-Err.is; number = ap verdict_number c.make_verdict-verdict.ensures }
