@@ -2,13 +2,13 @@
 ghost use Rattle.std.specs.Prelude.{◌+◌, ◌≤◌};
 
 use crate::digest::{mix, of_box, of_bytes, of_looks};
-use crate::print;
 use bar_box::BarBox;
 use measures::least;
 use recognisers::counts::ROW_BYTES;
 use recognisers::refusals::verdict_number;
 use recognisers::{Refusal, Thresholds};
 use std::num::wrapping_add_u64;
+use test_output::{digest, number};
 
 // The most bars of a history here, and a sheet with room for a row more than that has. A byte that is not written shows: it is 255,
 // which no row has.
@@ -129,9 +129,9 @@ fn feed_all(cut: Cut, prices: &[f64], sheet: &mut [u8]) -> Fed {
 }
 
 pub fn write(left: Left) {
-    print::digest(b": sheet ", left.sheet);
-    print::digest(b" box ", left.places);
-    print::digest(b" looks ", left.looks);
+    digest(b": sheet ", left.sheet);
+    digest(b" box ", left.places);
+    digest(b" looks ", left.looks);
 }
 
 // Feeds a history whole and writes what that leaves.
@@ -145,8 +145,8 @@ pub fn run(cut: Cut, prices: &[f64]) -> Left {
         looks: of_looks(b),
     };
     write(left);
-    print::number(b" accepted ", f.accepted);
-    print::number(b" refused ", f.refused);
-    print::digest(b" verdicts ", f.verdicts);
+    number(b" accepted ", f.accepted);
+    number(b" refused ", f.refused);
+    digest(b" verdicts ", f.verdicts);
     left
 }

@@ -3,6 +3,7 @@ use bar_box::{BarBox, KeptBar};
 use measures::{Bar, least};
 use recognisers::counts::{PLACES, RECOGNISERS};
 use recognisers::{Judged, Refusal, answer_in, answer_number, ordinal_in};
+use std::num::f64_to_bits_with_nan;
 
 // The largest prime below 2^32, and what a digest is multiplied by at each step: no product reaches 2^64.
 const PRIME: u64 = 4294967291;
@@ -22,14 +23,9 @@ pub fn mix(d: u64, x: u64) -> u64 {
     (d % PRIME * FACTOR + x % WORD) % PRIME
 }
 
-// A digest after a price's bits. The logic has one NaN, and its bits cannot be asked for.
+// A digest after a price's bits; each NaN has those of the one NaN.
 fn mix_price(d: u64, x: f64) -> u64 {
-    let nan = measures::is_nan(x);
-    let bits = if nan {
-        0x7FF8_0000_0000_0000
-    } else {
-        f64::to_bits(x)
-    };
+    let bits = f64_to_bits_with_nan(x);
     mix(mix(d, bits / WORD), bits)
 }
 

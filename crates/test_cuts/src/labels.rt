@@ -4,10 +4,10 @@ ghost use Rattle.recognisers.specs.Number.{row_bytes};
 
 use crate::cuts::BARS;
 use crate::plain::rows;
-use crate::print;
 use measures::least;
 use recognisers::counts::{LABELS, RECOGNISERS, ROW_BYTES};
 use std::num::wrapping_add_u64;
+use test_output::number;
 
 // The labels, as their codes count them.
 const CODES: u8 = LABELS as u8;
@@ -28,7 +28,7 @@ pub fn write_recognisers(prices: &[f64]) {
     let sheet = rows(prices);
     let end = ROW_BYTES * least(measures::count(prices), BARS);
     for k in 0..RECOGNISERS {
-        print::number(b" ", count(&sheet[..end], 2 * k, ROW_BYTES, 0, false));
+        number(b" ", count(&sheet[..end], 2 * k, ROW_BYTES, 0, false));
     }
 }
 
@@ -38,8 +38,8 @@ pub fn write_codes(prices: &[f64]) {
     for code in 1..CODES {
         let n = count(&sheet, 0, 2, code, true);
         if n != 0 {
-            print::number(b" ", u64::from(code));
-            print::number(b"x", n);
+            number(b" ", u64::from(code));
+            number(b"x", n);
         }
     }
 }

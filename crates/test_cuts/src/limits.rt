@@ -1,12 +1,12 @@
 // Refusals and limits of the box.
 use crate::cuts::{SHEET, feed_to};
 use crate::digest::{KINDS, of_box, of_bytes, of_places};
-use crate::print;
 use bar_box::BarBox;
 use recognisers::counts::{PLACES, ROW_BYTES};
 use recognisers::label::code;
 use recognisers::refusals::{refusal_number, verdict_number};
 use recognisers::{Judged, Refusal, Thresholds, answer_in, answer_number};
+use test_output::{digest, number};
 
 // The standard set but for the i-th threshold: x where that is a float, else n.
 pub fn changed(i: u32, x: f64, n: u32) -> Thresholds {
@@ -33,7 +33,7 @@ pub fn changed(i: u32, x: f64, n: u32) -> Thresholds {
 pub fn write_makings(x: f64, n: u32) {
     for i in 0..13 {
         let made = bar_box::make(changed(i, x, n));
-        print::number(b" ", u64::from(verdict_number(made.verdict)));
+        number(b" ", u64::from(verdict_number(made.verdict)));
     }
 }
 
@@ -51,35 +51,35 @@ const SMALL_SHEET: usize = 3 * ROW_BYTES;
 pub fn feed(mut b: BarBox, prices: &[f64], lent: usize) -> BarBox {
     let mut sheet = [255u8; SMALL_SHEET];
     let verdict = feed_to(&mut b, prices, &mut sheet, 0, lent);
-    print::number(b": ", u64::from(verdict_number(verdict)));
-    print::number(b" count ", u64::from(b.count));
-    print::digest(b" box ", of_box(b));
-    print::digest(b" sheet ", of_bytes(&sheet));
+    number(b": ", u64::from(verdict_number(verdict)));
+    number(b" count ", u64::from(b.count));
+    digest(b" box ", of_box(b));
+    digest(b" sheet ", of_bytes(&sheet));
     b
 }
 
 pub fn write_places(b: BarBox) {
     let bars = b.bars;
-    print::number(b": count ", u64::from(b.count));
-    print::digest(b", 0 to 9 ", of_places(bars, 0, 10));
-    print::digest(b", 10 to 12 ", of_places(bars, 10, 13));
-    print::digest(b", 13 to 63 ", of_places(bars, 13, PLACES));
+    number(b": count ", u64::from(b.count));
+    digest(b", 0 to 9 ", of_places(bars, 0, 10));
+    digest(b", 10 to 12 ", of_places(bars, 10, 13));
+    digest(b", 13 to 63 ", of_places(bars, 13, PLACES));
 }
 
 // The judged bar's ordinal; a refused look has none.
 fn write_ordinal(a: Result<Judged, Refusal>) {
     if let Ok(judged) = a {
-        print::number(b" ordinal ", u64::from(judged.ordinal));
+        number(b" ordinal ", u64::from(judged.ordinal));
     }
 }
 
 pub fn write_look(b: BarBox, k: u32, di: u32) {
     let a = bar_box::look(b, k, di);
     match a {
-        Err(why) => print::number(b": refused ", u64::from(refusal_number(why))),
+        Err(why) => number(b": refused ", u64::from(refusal_number(why))),
         Ok(judged) => {
-            print::number(b": v1 ", u64::from(code(judged.pair.v1)));
-            print::number(b" v2 ", u64::from(code(judged.pair.v2)));
+            number(b": v1 ", u64::from(code(judged.pair.v1)));
+            number(b" v2 ", u64::from(code(judged.pair.v2)));
         }
     }
     write_ordinal(a);
@@ -89,7 +89,7 @@ pub fn write_look(b: BarBox, k: u32, di: u32) {
 pub fn write_looks(b: BarBox, di: u32) {
     for k in 0..KINDS {
         let n = answer_number(answer_in(bar_box::look(b, k, di)));
-        print::number(b" ", u64::from(n));
+        number(b" ", u64::from(n));
     }
     write_ordinal(bar_box::look(b, 0, di));
 }

@@ -30,16 +30,15 @@ mod digest;
 mod labels;
 mod limits;
 mod plain;
-mod print;
 mod script;
 
 use bar_box::{BarBox, KeptBar};
 use cuts::{BARS, Cut, Left};
 use measures::{Bar, least};
-use print::{STDIN_FILENO, STDOUT_FILENO};
 use recognisers::Thresholds;
 use recognisers::counts::PLACES;
 use script::{EMPTY, Line, float};
+use test_output::{STDIN_FILENO, text};
 
 const PRICES: usize = 4 * BARS;
 
@@ -160,9 +159,9 @@ fn box_after(held: BarBox, line: Line, prices: &[f64]) -> BarBox {
 
 fn write_same(same: bool) {
     if same {
-        io::write_all(STDOUT_FILENO, b" same");
+        text(b" same");
     } else {
-        io::write_all(STDOUT_FILENO, b" DIFFERS");
+        text(b" DIFFERS");
     }
 }
 
@@ -232,7 +231,7 @@ fn step(st: State, line: Line) -> State {
         seen: seen_after(seen, line, lent),
     };
     if line.in_text {
-        print::byte(b'\n');
+        text(b"\n");
     }
     after
 }

@@ -1,6 +1,5 @@
 // A line of the script, read byte by byte: a word, of which the first letter says what is done, and up to four numbers; after a bar
 // comes text, which is written.
-use crate::print;
 use recognisers::export::of_bits;
 
 // No value is made of more than 2^60, so that none overflows.
@@ -63,7 +62,7 @@ fn with_digit(n: u64, byte: u8) -> u64 {
 pub fn with_byte(line: Line, byte: u8) -> Line {
     let mut next = line;
     if line.in_text {
-        print::byte(byte);
+        test_output::byte(byte);
         return next;
     }
     next.letter = if line.letter == 0 { byte } else { line.letter };

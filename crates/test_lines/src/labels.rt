@@ -1,43 +1,40 @@
 // The labels' texts there and back, and bytes that are no label.
-use crate::print;
 use crate::run::first;
+use test_output::{number, text};
 use text::label_text::NO_LABEL;
 use text::{Text, code_of_bytes, code_of_text, text_of};
 
 // A code, its text, how many bytes that has, and the code of it: again that code, or 38.
 fn write_code(code: u8) {
-    let text = text_of(code);
-    let bytes = text.bytes;
-    print::number(b"code ", code as u64);
-    print::text(b": ");
-    print::text(first(&bytes, text.len as usize));
-    print::number(b",", text.len as u64);
-    print::number(b",", code_of_text(text) as u64);
-    print::text(b"\n");
+    let label = text_of(code);
+    number(b"code ", u64::from(code));
+    text(b": ");
+    text(first(&label.bytes, usize::from(label.len)));
+    number(b",", u64::from(label.len));
+    number(b",", u64::from(code_of_text(label)));
+    text(b"\n");
 }
 
 fn write_codes() {
-    let mut code = 0u8;
-    while code <= NO_LABEL {
+    for code in 0..=NO_LABEL {
         write_code(code);
-        code += 1;
     }
     write_code(255);
 }
 
 fn write_bytes(s: &[u8]) {
-    print::text(b"code of ");
-    print::text(s);
-    print::number(b": ", code_of_bytes(s) as u64);
-    print::text(b"\n");
+    text(b"code of ");
+    text(s);
+    number(b": ", u64::from(code_of_bytes(s)));
+    text(b"\n");
 }
 
 // The text 5K, of which so many bytes count.
 fn write_counted(len: u8) {
     let bytes = *b"5K\0\0\0\0\0\0\0\0\0\0\0\0\0";
-    print::number(b"code of 5K with a count of ", len as u64);
-    print::number(b": ", code_of_text(Text { bytes, len }) as u64);
-    print::text(b"\n");
+    number(b"code of 5K with a count of ", u64::from(len));
+    number(b": ", u64::from(code_of_text(Text { bytes, len })));
+    text(b"\n");
 }
 
 pub fn write() {
@@ -53,8 +50,7 @@ pub fn write() {
     write_bytes(b"\xe5\x85\xb6\xe4\xbb\x96.");
     // 看跌反击线 and a point, more than a text has room for
     write_bytes(b"\xe7\x9c\x8b\xe8\xb7\x8c\xe5\x8f\x8d\xe5\x87\xbb\xe7\xba\xbf.");
-    write_counted(2);
-    write_counted(3);
-    write_counted(16);
-    write_counted(255);
+    for len in [2, 3, 16, 255] {
+        write_counted(len);
+    }
 }

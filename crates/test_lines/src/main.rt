@@ -8,78 +8,55 @@
 // function is proved safe and ending; what is written is seen in the file stdout, which the gate holds this program to.
 #![tactic(auto)]
 
-ghost use Rattle.std.specs.Prelude.{◌<◌, ◌≤◌, length};
-
 mod labels;
 mod limits;
-mod print;
 mod run;
 mod tally;
 mod tally_runs;
 
-use measures::least;
-use print::STDIN_FILENO;
-use recognisers::Verdict;
-use recognisers::refusals::refusal_number;
-use run::first;
+use measures::Bar;
+use recognisers::refusals::verdict_number;
+use run::run_fresh;
+use test_output::{STDIN_FILENO, number, price, text};
 use text::line_text::line_verdict;
-use text::lines::{LINE_FEED, piece_end};
-use text::{Line, read_line};
+use text::{LineError, read_line};
 
 // What a line says.
-fn write_said(line: Line) {
-    let verdict = line_verdict(line);
-    match verdict {
-        Ok(()) => print::text(b":0"),
-        Err(why) => print::number(b":", refusal_number(why) as u64),
-    }
+fn write_said(line: Result<Bar, LineError>) {
+    number(b":", u64::from(verdict_number(line_verdict(line))));
     match line {
-        Line::Prices(bar) => {
-            print::price(bar.open);
-            print::price(bar.close);
-            print::price(bar.high);
-            print::price(bar.low);
+        Ok(bar) => {
+            price(bar.open);
+            price(bar.close);
+            price(bar.high);
+            price(bar.low);
         }
-        Line::BadShape => {}
-        Line::BadPrice(place) => print::number(b",", place as u64),
+        Err(LineError::BadShape) => {}
+        Err(LineError::BadPrice(place)) => number(b",", u64::from(place)),
     }
 }
 
 // The case comes with its line feed, unless the input's end cut that off. A second line is written for a case whose session prints
 // something else if the line feed comes behind: an empty line is none at the input's end.
-fn write_case(number: u64, case: &[u8]) {
-    let line = first(case, piece_end(LINE_FEED, case));
-    let mut ended = io::buffer();
-    let n = run::run_fresh(line, &mut ended);
-    let mut fed = io::buffer();
-    let m = run::run_fresh(case, &mut fed);
-    print::number(b"", number);
+fn write_case(n: u64, case: &[u8]) {
+    let line = case.strip_suffix(b"\n").unwrap_or(case);
+    let mut out = io::buffer();
+    let ended = run_fresh(line, &mut out);
+    let mut out = io::buffer();
+    let fed = run_fresh(case, &mut out);
+    number(b"", n);
     write_said(read_line(line));
-    run::write(first(&ended, n));
-    if !check::same(first(&ended, n), first(&fed, m)) {
-        print::number(b"", number);
-        print::text(b", line feed");
-        run::write(first(&fed, m));
+    run::write(ended);
+    if ended != fed {
+        number(b"", n);
+        text(b", line feed");
+        run::write(fed);
     }
 }
 
-// Writes the case that begins at a place of the input, and answers the place behind it.
-fn write_next(number: u64, input: &[u8], at: usize) -> usize
-    requires { at < length input.now }
-    ensures { (at < result) × (result ≤ length input.now) }
-{
-    let rest = &input[at..];
-    let n = least(piece_end(LINE_FEED, rest), input.len() - at - 1) + 1;
-    write_case(number, first(rest, n));
-    at + n
-}
-
 fn write_cases(input: &[u8]) {
-    let mut number = 0u64;
-    let mut at = 0usize;
-    while at < input.len() {
-        number += 1;
-        at = write_next(number, input, at);
+    for (i, case) in input.split_inclusive(|byte| *byte == b'\n').enumerate() {
+        write_case(i as u64 + 1, case);
     }
 }
 

@@ -18,25 +18,21 @@ mod print;
 mod script;
 mod steps;
 
-use print::STDIN_FILENO;
 use recognisers::Thresholds;
 use script::EMPTY;
 use terms::Layer;
+use test_output::STDIN_FILENO;
 
 // Takes the steps, a line each.
-fn take_steps(input: &[u8], fresh: Layer) {
-    let mut layer = fresh;
+fn take_steps(input: &[u8], layer: &mut Layer) {
     let mut line = EMPTY;
-    let mut i = 0usize;
-    while i < input.len() {
-        let byte = input[i];
-        if byte == 10 {
-            layer = steps::take(layer, line);
+    for byte in input {
+        if *byte == b'\n' {
+            steps::take(layer, &line);
             line = EMPTY;
         } else {
-            line = script::with_byte(line, byte);
+            line.push(*byte);
         }
-        i += 1;
     }
 }
 
@@ -44,6 +40,6 @@ fn main() {
     let mut input = io::large_buffer();
     let n = io::read_full(STDIN_FILENO, &mut input);
     let made = terms::make(Thresholds::standard(), steps::no_hours(), 5);
-    let l = made.after;
-    take_steps(&input[..n], l);
+    let mut layer = made.after;
+    take_steps(&input[..n], &mut layer);
 }

@@ -1,47 +1,56 @@
 // A line of the script, read byte by byte.
-use measures::least;
 
-// The first byte, 0 if there is none yet; the numbers behind it; and the place of the one that is read.
+// No number is made of more, so that it has 12 digits at most.
+const MOST: u64 = 100_000_000_000;
+
+const WORD: u64 = 0x1_0000_0000;
+
+// The place of the last number.
+const LAST: usize = 11;
+
+// The first byte; the numbers behind it, the first in place 1; and the place of the one that is read. Without a byte the letter is 0 and no
+// `Option`: a zero byte before the letter is passed over, so that none is a letter.
 #[derive(Clone, Copy)]
 pub struct Line {
     pub letter: u8,
-    pub numbers: [u64; 12],
-    pub place: usize,
+    numbers: [u64; LAST + 1],
+    place: usize,
 }
 
 pub const EMPTY: Line = Line {
     letter: 0,
-    numbers: [0; 12],
+    numbers: [0; LAST + 1],
     place: 0,
 };
 
-// A number after one digit more; none is made of more than 12 digits.
+// A number after one digit more. A match on ranges of bytes: it is the grammar of the script.
 fn with_digit(n: u64, byte: u8) -> u64 {
     match byte {
-        b'0'..=b'9' => 10 * (n % 100_000_000_000) + (byte - b'0') as u64,
+        b'0'..=b'9' => 10 * (n % MOST) + u64::from(byte - b'0'),
         _ => n,
     }
 }
 
-// A line after one byte more: the numbers stand behind spaces, the first from place 1 on.
-pub fn with_byte(line: Line, byte: u8) -> Line {
-    let mut next = line;
-    if line.letter == 0 {
-        next.letter = byte;
-        return next;
+impl Line {
+    // Takes one byte more: the numbers stand behind spaces.
+    pub fn push(&mut self, byte: u8) {
+        let at = self.place.min(LAST);
+        if self.letter == 0 {
+            self.letter = byte;
+        } else if byte == b' ' {
+            self.place = (at + 1).min(LAST);
+        } else {
+            self.numbers[at] = with_digit(self.numbers[at], byte);
+        }
     }
-    let at = least(line.place, 11);
-    if byte == 32 {
-        next.place = least(at + 1, 11);
-    } else {
-        let n = line.numbers[at];
-        next.numbers[at] = with_digit(n, byte);
-    }
-    next
-}
 
-// The i-th number, from 1.
-pub fn number(line: Line, i: usize) -> u32 {
-    let n = line.numbers[least(i, 11)];
-    (n % 4_294_967_296) as u32
+    // The numbers, each cut to 32 bits; the first stands in place 1.
+    pub fn numbers(&self) -> [u32; LAST + 1] {
+        self.numbers.map(|n| (n % WORD) as u32)
+    }
+
+    // The place behind the last number.
+    pub fn end(&self) -> usize {
+        self.place.min(LAST) + 1
+    }
 }
