@@ -23,7 +23,7 @@ pub const EMPTY: Line = Line {
     place: 0,
 };
 
-// A number after one digit more. A match on ranges of bytes: it is the grammar of the script.
+// A number after one digit more. Not one function with that of test_cuts, whose script has another grammar: points, and an x.
 fn with_digit(n: u64, byte: u8) -> u64 {
     match byte {
         b'0'..=b'9' => 10 * (n % MOST) + u64::from(byte - b'0'),
