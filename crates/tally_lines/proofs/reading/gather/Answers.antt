@@ -5,7 +5,6 @@ use mathlib.Core.Bool.{true}
 use mathlib.Core.List.{[], ◌++◌, append-nil}
 use mathlib.Core.Path.{◌≡◌, refl, sym, ap, ◌∙◌}
 use native.Mathlib.Omega.{arith}
-use borrow.Author.Rules.{rules}
 use lib.ListN.{length, take, drop, length-append, length-drop}
 use Rattle.measures.specs.Bar.{prices_of}
 use Rattle.measures.proofs.Overlay.{overlay-none, overlay-more}
@@ -24,28 +23,6 @@ pub loop-got-init : goal.loop-got-init
 unfolding read_from prices_of
 loop-got-init c =
     (omega arith, omega arith, refl, begun_kept c.extend.result (content c.args.line ++ []) c.extend.ensures, refl, refl, sym (overlay-none c.args.prices.now 0), λ e. (omega (arith, c.requires.0), refl))
-
-pub next_line-next-requires : goal.next_line-next-requires
-next_line-next-requires c =
-    let loop = c.loop-got in
-    let chunk = c.args.chunk.now in
-    let sure = turn-goes_on loop.got.used (length chunk) loop.got.bars c.args.most _ c.loop-got-test.true in
-    (rw (to_end chunk loop.got.used, length-drop) (omega (arith, sure.0)), omega (arith, c.requires.1, sure.1, loop.invariant.2))
-
-pub overflow_add-got : goal.overflow_add-got
-overflow_add-got c =
-    let loop = c.loop-got in
-    let chunk = c.args.chunk.now in
-    let did = rw (to_end chunk loop.got.used, length-drop) at c.next_line-next.ensures.le_used in
-    let most : loop.got.used + c.next_line-next.result.used ≤ length chunk = omega (arith, did.1, loop.invariant.0) in
-    search rules
-
-pub loop-got-smaller : goal.loop-got-smaller
-loop-got-smaller c =
-    let loop = c.loop-got in
-    let chunk = c.args.chunk.now in
-    let did = rw (to_end chunk loop.got.used, length-drop) at c.next_line-next.ensures.le_used in
-    omega (arith, did.0, did.1, loop.invariant.0)
 
 pub loop-got-preserved : goal.loop-got-preserved
 loop-got-preserved c =

@@ -12,11 +12,7 @@ use Rattle.input_lines.specs.Lines.{content, kept_line}
 use Rattle.input_lines.proofs.LineLaws.{content-partial}
 use Rattle.tally_lines.specs.Session.{Read, read_from, line_bars, line_stop}
 use Rattle.tally_lines.proofs.ReadLaws.{read-line, read-rest, bars-few, gathered-is}
-use lib.Seq.{length-take-le}
 use Rattle.tally_lines.proofs.reading.next_line.Goals as goal
-
-pub slice_bounds-extend-end : goal.slice_bounds-extend-end
-slice_bounds-extend-end c = sym (length-take-le _ _ c.piece_end-k.ensures.1)
 
 pub returns-then-k-chunk : goal.returns-then-k-chunk
 returns-then-k-chunk c =

@@ -13,9 +13,6 @@ use Rattle.tally_lines.specs.Session.{read_from, state_of, session_of}
 use Rattle.tally_lines.proofs.SessionLaws.{taken-by}
 use Rattle.tally_lines.proofs.session.take_in.Goals as goal
 
-pub slice_bounds-feed_all-end : goal.slice_bounds-feed_all-end
-slice_bounds-feed_all-end c = sym (length-take-le _ _ (omega (arith, c.gather-got.auto.prices, c.gather-got.ensures.le_used.2, c.batch-most.ensures.1)))
-
 pub feed_all-fed-requires : goal.feed_all-fed-requires
 feed_all-fed-requires c =
     let args = c.args in
