@@ -1,6 +1,6 @@
 -- The loop's invariant: the session is what the bytes passed leave. Where the loop ends, those of the rest leave nothing else.
 -- Assumes nothing.
-use Prim.Native.Nat.{suc, ◌+◌, ◌≤◌}
+use Prim.Native.Nat.{suc, ◌≤◌}
 use mathlib.Core.List.{[], ◌++◌, append-nil}
 use mathlib.Core.Path.{◌≡◌, sym, ap, ◌∙◌}
 use native.Mathlib.Omega.{arith}
