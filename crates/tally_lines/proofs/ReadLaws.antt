@@ -1,11 +1,10 @@
 -- Bytes read as lines: a begun line of which the first bytes are kept, one run behind another, and the bytes up to the end of a line.
 -- Assumes nothing.
 use Rattle.std.specs.Prelude.{None, Ok, Err}
-use Prim.Native.Nat.{ℕ, ◌+◌, ◌≤◌, ◌<◌}
+use Prim.Native.Nat.{ℕ, ◌+◌, ◌<◌}
 use mathlib.Core.Bool.{Bool, true, false, cond, not}
 use mathlib.Core.List.{List, [], ◌∷◌, ◌++◌, append_assoc, append-nil}
 use mathlib.Core.Path.{◌≡◌, refl, sym, ap, ◌∙◌}
-use native.Mathlib.Omega.{arith}
 use borrow.Author.Tests.{not-true}
 use lib.Dec.{eqb}
 use lib.ListN.{length, take, drop}
@@ -140,12 +139,6 @@ module _ (cur chunk : List ℕ) (k : ℕ) (is : k ≡ piece_end line_feed chunk)
       rw (with-line, read-append [] cur (take k chunk) (line_feed ∷ []), read-rest) (read-feed (kept_line (cur ++ take k chunk)))
 
 -- ---- what was gathered
-
--- a line gives at most one bar
-pub bars-few : (l : Line) → length (line_bars l) ≤ 1
-bars-few (Ok bar) = omega arith
-bars-few (Err BadShape) = omega arith
-bars-few (Err (BadPrice place)) = omega arith
 
 -- field by field
 pub gathered-is : (g : Gathered) (used n : ℕ) (r : Read) → g.line ≡ partial_of r.line → g.used ≡ used → g.bars ≡ n + length r.bars → g.stop ≡ r.stop

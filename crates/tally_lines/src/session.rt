@@ -111,6 +111,7 @@ pub fn absorb(st: Session, chunk: &[u8]) -> Session
     let line = lines::extend(st.line, &chunk[..0]);
     let mut session = Session { line, ..st };
     let mut used = 0usize;
+    // not over the bytes one by one: each turn takes a batch
     while (used < chunk.len()) & session.stop.is_none() {
         used += take_in(&mut session, &chunk[used..]);
     }

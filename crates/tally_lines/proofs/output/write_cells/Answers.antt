@@ -1,11 +1,9 @@
 -- The loop's invariant: the lines of the counts passed stand from the place on. Assumes nothing.
 use Prim.Native.Nat.{◌<◌}
-use mathlib.Core.Path.{◌≡◌, refl, sym, ◌∙◌}
+use mathlib.Core.Path.{refl, sym, ◌∙◌}
 use native.Mathlib.Omega.{arith}
 use lib.ListN.{length, get_or, take}
-use lib.Seq.{take_all}
 use Rattle.measures.proofs.Overlay.{overlay-none}
-use Rattle.recognisers.specs.Number.{labels}
 use Rattle.output_lines.proofs.OutputLaws.{written_on}
 use Rattle.tally_lines.specs.Output.{cell_line, cell_lines}
 use Rattle.tally_lines.proofs.OutputLaws.{cell-most, cells-next}
@@ -27,11 +25,3 @@ loop-c-preserved c =
     let did = rw c.from.ensures at c.write_cell-place.ensures in
     let on = written_on args.out.now args.at (cell_lines args.k 0 (take loop.c counts)) _ _ line _ _ (omega (arith, most, c.requires, inv.1)) inv.2 did.1 in
     (c.write_cell-place.auto.out ∙ inv.0, omega (arith, did.0, inv.1), rw (cells-next args.k counts loop.c inside) on)
-
-pub returns : goal.returns
-returns c =
-    let counts = c.args.row.now.counts in
-    let all : length counts ≡ labels = omega arith in
-    let inv = c.loop-c.invariant in
-    let done = rw (take_all c.loop-c.c counts (omega (arith, all))) at inv.2 in
-    (omega (arith, inv.1), done)

@@ -1,13 +1,11 @@
 -- The loop's invariant: the lines of the rows passed stand at the front. Assumes nothing.
 use Prim.Native.Nat.{◌<◌}
 use mathlib.Core.List.{[]}
-use mathlib.Core.Path.{◌≡◌, refl, sym, ◌∙◌}
+use mathlib.Core.Path.{refl, sym, ◌∙◌}
 use native.Mathlib.Omega.{arith}
 use lib.ListN.{length, get_or, take}
-use lib.Seq.{take_all}
 use Rattle.measures.proofs.Overlay.{overlay-none}
 use Rattle.tallies.specs.Tally.{row_of_counts}
-use Rattle.recognisers.specs.Number.{recognisers}
 use Rattle.output_lines.proofs.OutputLaws.{written_on}
 use Rattle.tally_lines.specs.Output.{cell_lines, lines_of_tally}
 use Rattle.tally_lines.proofs.OutputLaws.{rows_next}
@@ -28,11 +26,3 @@ loop-k-preserved c =
     let did = c.write_cells-place.ensures in
     let on = written_on args.out.now 0 (lines_of_tally 0 (take loop.k tally)) _ _ lines _ _ (omega (arith, did.0, did.1.0, c.requires, inv.1)) inv.2 did.1 in
     (c.write_cells-place.auto.out ∙ inv.0, omega (arith, did.0, inv.1), rw (rows_next tally loop.k (row_of_counts []) inside) on)
-
-pub returns : goal.returns
-returns c =
-    let tally = c.args.tally.now in
-    let all : length tally ≡ recognisers = omega arith in
-    let inv = c.loop-k.invariant in
-    let done = rw (take_all c.loop-k.k tally (omega (arith, all))) at inv.2 in
-    (omega (arith, inv.1), done)

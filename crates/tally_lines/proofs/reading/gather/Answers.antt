@@ -1,11 +1,10 @@
 -- The loop's invariant: the bytes passed are read, their bars stand at the front of the run, and no byte passed means that none is read
 -- yet. Assumes nothing.
-use Prim.Native.Nat.{◌+◌, ◌*◌, ◌≤◌}
+use Prim.Native.Nat.{◌+◌, ◌*◌}
 use mathlib.Core.Bool.{true}
 use mathlib.Core.List.{[], ◌++◌, append-nil}
 use mathlib.Core.Path.{◌≡◌, refl, sym, ap, ◌∙◌}
 use native.Mathlib.Omega.{arith}
-use borrow.Author.Rules.{rules}
 use lib.ListN.{length, take, drop, length-append, length-drop}
 use Rattle.measures.specs.Bar.{prices_of}
 use Rattle.measures.proofs.Overlay.{overlay-none, overlay-more}
@@ -16,7 +15,7 @@ use Rattle.input_lines.proofs.PartLaws.{to_end}
 use Rattle.tally_lines.specs.declared.reading.Gathered.{Gathered}
 use Rattle.output_lines.specs.Output.{goes_on}
 use Rattle.tally_lines.specs.Session.{read_from}
-use Rattle.tally_lines.proofs.GuardLaws.{none-goes_on, turn-goes_on, used-some}
+use Rattle.tally_lines.proofs.GuardLaws.{none-goes_on, turn-goes_on}
 use Rattle.tally_lines.proofs.ReadLaws.{read_kept, read-turn, gathered-is, begun_kept}
 use Rattle.tally_lines.proofs.reading.gather.Goals as goal
 
@@ -24,28 +23,6 @@ pub loop-got-init : goal.loop-got-init
 unfolding read_from prices_of
 loop-got-init c =
     (omega arith, omega arith, refl, begun_kept c.extend.result (content c.args.line ++ []) c.extend.ensures, refl, refl, sym (overlay-none c.args.prices.now 0), λ e. (omega (arith, c.requires.0), refl))
-
-pub next_line-next-requires : goal.next_line-next-requires
-next_line-next-requires c =
-    let loop = c.loop-got in
-    let chunk = c.args.chunk.now in
-    let sure = turn-goes_on loop.got.used (length chunk) loop.got.bars c.args.most _ c.loop-got-test.true in
-    (rw (to_end chunk loop.got.used, length-drop) (omega (arith, sure.0)), omega (arith, c.requires.1, sure.1, loop.invariant.2))
-
-pub overflow_add-got : goal.overflow_add-got
-overflow_add-got c =
-    let loop = c.loop-got in
-    let chunk = c.args.chunk.now in
-    let did = rw (to_end chunk loop.got.used, length-drop) at c.next_line-next.ensures.le_used in
-    let most : loop.got.used + c.next_line-next.result.used ≤ length chunk = omega (arith, did.1, loop.invariant.0) in
-    search rules
-
-pub loop-got-smaller : goal.loop-got-smaller
-loop-got-smaller c =
-    let loop = c.loop-got in
-    let chunk = c.args.chunk.now in
-    let did = rw (to_end chunk loop.got.used, length-drop) at c.next_line-next.ensures.le_used in
-    omega (arith, did.0, did.1, loop.invariant.0)
 
 pub loop-got-preserved : goal.loop-got-preserved
 loop-got-preserved c =
@@ -80,13 +57,12 @@ loop-got-preserved c =
       λ e. absurd (let z : ⊥ = omega (arith, did.le_used.0) in z),
     )
 
-pub returns : goal.returns
-returns c =
+pub returns-clause-value : goal.returns-clause-value
+returns-clause-value c =
     let loop = c.loop-got in
     let inv = loop.invariant in
     let line = content c.args.line in
     let chunk = c.args.chunk.now in
     let first : content c.extend.result ≡ kept_line line = rw (c.extend.ensures, content-partial (kept_line (line ++ [])), append-nil) in
     let whole = rw (first, read_kept [] line (take loop.got.used chunk)) at inv in
-    let some : 1 ≤ loop.got.used = used-some loop.got.used (length chunk) loop.got.bars c.args.most _ c.requires.2 (λ e. let first = inv.7 e in (first.0, sym (none-goes_on loop.got.stop _ c.is_none.ensures) ∙ ap goes_on first.1)) c.loop-got-test.false in
-    record { le_used = (some, inv.0, inv.1); value = (gathered-is loop.got loop.got.used 0 (read_from [] line (take loop.got.used chunk)) whole.3 refl (omega (arith, whole.4)) whole.5, whole.6) }
+    (gathered-is loop.got loop.got.used 0 (read_from [] line (take loop.got.used chunk)) whole.3 refl (omega (arith, whole.4)) whole.5, whole.6)

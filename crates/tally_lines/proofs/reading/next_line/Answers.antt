@@ -1,6 +1,6 @@
 -- The bytes of a line, with or without its end. Assumes nothing.
 use Rattle.std.specs.Prelude.{None}
-use Prim.Native.Nat.{◌*◌, ◌≤◌, ◌<◌}
+use Prim.Native.Nat.{◌*◌, ◌<◌}
 use mathlib.Core.List.{[], ◌++◌}
 use mathlib.Core.Path.{◌≡◌, refl, sym}
 use native.Mathlib.Omega.{arith}
@@ -11,15 +11,11 @@ use Rattle.text.specs.LineText.{line_of}
 use Rattle.input_lines.specs.Lines.{content, kept_line}
 use Rattle.input_lines.proofs.LineLaws.{content-partial}
 use Rattle.tally_lines.specs.Session.{Read, read_from, line_bars, line_stop}
-use Rattle.tally_lines.proofs.ReadLaws.{read-line, read-rest, bars-few, gathered-is}
-use lib.Seq.{length-take-le}
+use Rattle.tally_lines.proofs.ReadLaws.{read-line, read-rest, gathered-is}
 use Rattle.tally_lines.proofs.reading.next_line.Goals as goal
 
-pub slice_bounds-extend-end : goal.slice_bounds-extend-end
-slice_bounds-extend-end c = sym (length-take-le _ _ c.piece_end-k.ensures.1)
-
-pub returns-then-k-chunk : goal.returns-then-k-chunk
-returns-then-k-chunk c =
+pub returns-then-k-chunk-clause-value : goal.returns-then-k-chunk-clause-value
+returns-then-k-chunk-clause-value c =
     let args = c.args in
     let chunk = args.chunk.now in
     let k = c.piece_end-k.result in
@@ -29,16 +25,14 @@ returns-then-k-chunk c =
     let l = line_of (kept_line (content args.line ++ take k chunk)) in
     let r : Read = record { bars = line_bars l; line = []; stop = line_stop l } in
     let read : read_from [] (content args.line) (take c.end_line.result.used chunk) ≡ r = rw did.1 (read-line (content args.line) chunk k c.piece_end-k.ensures.0 inside) in
-    let few = bars-few l in
-    record { le_used = (omega (arith, did.1), omega (arith, did.1, inside), omega (arith, did.2, few)); value = (rw read (gathered-is c.end_line.result c.end_line.result.used args.n r did.0 refl did.2 did.3), rw read did.4) }
+    (rw read (gathered-is c.end_line.result c.end_line.result.used args.n r did.0 refl did.2 did.3), rw read did.4)
 
-pub returns-else-k-chunk : goal.returns-else-k-chunk
+pub returns-else-k-chunk-clause-value : goal.returns-else-k-chunk-clause-value
 unfolding prices_of
-returns-else-k-chunk c =
+returns-else-k-chunk-clause-value c =
     let args = c.args in
     let chunk = args.chunk.now in
     let k = c.piece_end-k.result in
-    let all : length chunk ≤ k = c.if-k-chunk.false in
     let r : Read = record { bars = []; line = kept_line (content args.line ++ take k chunk); stop = None } in
     let read = read-rest (content args.line) chunk k c.piece_end-k.ensures.0 in
-    record { le_used = (omega (arith, c.requires.0), c.piece_end-k.ensures.1, omega arith); value = (rw read (gathered-is (record { line = c.extend-longer.result; used = k; bars = args.n; stop = None }) k args.n r c.extend-longer.ensures refl (omega arith) refl), rw read (sym (overlay-none args.prices.now (4 * args.n)))) }
+    (rw read (gathered-is (record { line = c.extend-longer.result; used = k; bars = args.n; stop = None }) k args.n r c.extend-longer.ensures refl (omega arith) refl), rw read (sym (overlay-none args.prices.now (4 * args.n))))

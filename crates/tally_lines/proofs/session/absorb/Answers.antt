@@ -1,18 +1,15 @@
 -- The loop's invariant: the session is what the bytes passed leave. Where the loop ends, those of the rest leave nothing else.
 -- Assumes nothing.
-use Prim.Native.Nat.{suc, ◌+◌, ◌≤◌}
+use Prim.Native.Nat.{suc, ◌≤◌}
 use mathlib.Core.List.{[], ◌++◌, append-nil}
 use mathlib.Core.Path.{◌≡◌, sym, ap, ◌∙◌}
 use native.Mathlib.Omega.{arith}
-use borrow.Author.Rules.{rules}
-use borrow.Author.Tests.{ltb-true}
 use lib.ListN.{length, take, drop, length-take, length-drop}
 use lib.Seq.{take_all, take-add}
 use Rattle.recognisers.specs.Number.{longest_line}
 use Rattle.input_lines.specs.Lines.{content, kept_line, partial_of}
 use Rattle.input_lines.proofs.LineLaws.{content-partial}
 use Rattle.input_lines.proofs.PartLaws.{to_end}
-use Rattle.input_lines.proofs.RunLaws.{both}
 use Rattle.output_lines.specs.Output.{goes_on}
 use Rattle.tally_lines.specs.declared.session.Session.{Session}
 use Rattle.tally_lines.specs.Session.{State, state_of, session_of, state_after}
@@ -26,30 +23,6 @@ loop-used-init c =
     let st : Session = record { line = c.extend-line.result; held = args.st.held; tally = args.st.tally; stop = args.st.stop } in
     let full : length st.held.bars ≡ 64 = c.well_formed.0.1.1.1.0.1.1.1.1.0.1.0.1 in
     (omega arith, session-stays st (content args.st.line ++ []) c.extend-line.ensures, full)
-
-pub take_in-used-requires : goal.take_in-used-requires
-take_in-used-requires c =
-    let loop = c.loop-used in
-    let chunk = c.args.chunk.now in
-    let sure = both _ _ c.loop-used-test.true in
-    (none-goes_on loop.session.stop _ c.is_none.ensures ∙ sure.1, rw (to_end chunk loop.used, length-drop) (omega (arith, ltb-true loop.used (length chunk) sure.0)), loop.invariant.2)
-
-pub overflow_add-used : goal.overflow_add-used
-overflow_add-used c =
-    let turn = c.take_in-used in
-    let loop = c.loop-used in
-    let chunk = c.args.chunk.now in
-    let did = rw (to_end chunk loop.used, length-drop) at turn.ensures.used in
-    let most : loop.used + turn.result ≤ length chunk = omega (arith, did.1, loop.invariant.0) in
-    search rules
-
-pub loop-used-smaller : goal.loop-used-smaller
-loop-used-smaller c =
-    let turn = c.take_in-used in
-    let loop = c.loop-used in
-    let chunk = c.args.chunk.now in
-    let did = rw (to_end chunk loop.used, length-drop) at turn.ensures.used in
-    omega (arith, did.0, did.1, loop.invariant.0)
 
 pub loop-used-preserved : goal.loop-used-preserved
 loop-used-preserved c =

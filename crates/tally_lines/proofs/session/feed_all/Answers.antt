@@ -9,11 +9,11 @@ use Rattle.tallies.specs.Feed.{lent}
 use Rattle.tally_lines.proofs.BatchLaws.{batch-fed, none-fed, fed-by, tallied-full}
 use Rattle.tally_lines.proofs.session.feed_all.Goals as goal
 
-pub returns-then-is_empty : goal.returns-then-is_empty
-returns-then-is_empty c =
+pub returns-then-is_empty-clause-fed : goal.returns-then-is_empty-clause-fed
+returns-then-is_empty-clause-fed c =
     let args = c.args in
     let none : length args.prices.now ≡ 0 = eqb-true _ _ (sym c.is_empty.ensures ∙ c.if-is_empty.true) in
-    record { fed = sym (none-fed args.held.now args.tally args.prices.now none); places = c.requires.0 }
+    sym (none-fed args.held.now args.tally args.prices.now none)
 
 pub returns : goal.returns
 returns c =

@@ -13,9 +13,6 @@ use Rattle.tally_lines.specs.Session.{read_from, state_of, session_of}
 use Rattle.tally_lines.proofs.SessionLaws.{taken-by}
 use Rattle.tally_lines.proofs.session.take_in.Goals as goal
 
-pub slice_bounds-feed_all-end : goal.slice_bounds-feed_all-end
-slice_bounds-feed_all-end c = sym (length-take-le _ _ (omega (arith, c.gather-got.auto.prices, c.gather-got.ensures.le_used.2, c.batch-most.ensures.1)))
-
 pub feed_all-fed-requires : goal.feed_all-fed-requires
 feed_all-fed-requires c =
     let args = c.args in
@@ -33,8 +30,8 @@ settle-requires c =
     let is = ap (λ (g : Gathered). g.line) got.ensures.value.0 in
     rw (is, content-partial _)
 
-pub returns : goal.returns
-returns c =
+pub returns-clause-session : goal.returns-clause-session
+returns-clause-session c =
     let args = c.args in
     let did = c.gather-got.ensures in
     let bytes = take c.gather-got.result.used args.chunk.now in
@@ -44,4 +41,4 @@ returns c =
     let line : content c.gather-got.result.line ≡ read.line = rw (ap (λ (g : Gathered). g.line) did.value.0) (content-partial read.line) in
     let stop : c.gather-got.result.stop ≡ read.stop = ap (λ (g : Gathered). g.stop) did.value.0 in
     let fed = sym (rw bars at c.feed_all-fed.ensures.fed) in
-    record { used = (did.le_used.0, did.le_used.1); session = c.settle.ensures ∙ ap session_of (taken-by (state_of args.st.now) bytes _ _ _ c.requires.0 fed line stop); places = rw c.settle.ensures c.feed_all-fed.ensures.places }
+    c.settle.ensures ∙ ap session_of (taken-by (state_of args.st.now) bytes _ _ _ c.requires.0 fed line stop)
