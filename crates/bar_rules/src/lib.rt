@@ -160,8 +160,8 @@ fn is_alike(gap: bool, b1: Bar, b2: Bar) -> bool
     gap && measures::pair_variance(measures::body(b1), measures::body(b2)) < 0.2
 }
 
-#[tactic(auto, unfolding(crate::specs::BarRule::gap_up_of))]
 // The two are mirrors, with each comparison turned round and min for max: one function of both, told which, would be no plainer.
+#[tactic(auto, unfolding(crate::specs::BarRule::gap_up_of))]
 fn is_gap_up(b1: Bar, b2: Bar, b3: Bar) -> bool
     ensures { result ≡ gap_up_of b1 b2 b3 }
 {

@@ -4,7 +4,7 @@ ghost use Rattle.std.specs.Float.Ieee.{is_nan};
 ghost use Rattle.std.specs.Float.{inf, nan};
 ghost use Rattle.prices.specs.Price.{max_of, min_of, abs_of, square_of};
 
-// x if c holds, else y. The one branch of the measures and rules: what chooses a price, a label or a pair calls it.
+// x if c holds, else y: what chooses a price, a label or a pair calls it, so that nothing branches there.
 pub fn pick<T: Copy>(c: bool, x: T, y: T) -> T
     ensures { result ≡ cond c x y }
 {
@@ -24,7 +24,7 @@ pub fn minus_infinity() -> f64
     f64::NEG_INFINITY
 }
 
-// The compiler folds it to the bits 7FF8000000000000.
+// Its bits are 7FF8000000000000.
 pub fn not_a_number() -> f64
     ensures { result ≡ nan }
 {

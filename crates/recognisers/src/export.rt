@@ -14,7 +14,7 @@ use thresholds::Thresholds;
 pub const BAR_BYTES: usize = 32;
 
 // The float of a bit pattern. A NaN's pattern with its sign taken off is a number above the infinity's; whatever its payload, it
-// becomes the one NaN. f64::from_bits is not for these.
+// becomes the one NaN: f64::from_bits asks that there is none.
 pub fn of_bits(w: u64) -> f64
     ensures { result ≡ of_bits binary64 w }
 {

@@ -12,7 +12,7 @@ use recognisers::Refusal;
 use text::lines::LINE_FEED;
 use text::{LineError, Partial, lines, read_partial};
 
-// The line that has begun behind the bytes used, the bars read, and whether a line was refused.
+// The line that has begun behind the bytes used, the bars read, and what a line was refused by.
 #[derive(Clone, Copy)]
 pub(crate) struct Gathered {
     pub line: Partial,
