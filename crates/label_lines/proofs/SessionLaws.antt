@@ -1,14 +1,14 @@
 -- Runs of bytes: one behind the other, one without a line feed, one that ends with it, and one after a refusal; how many are taken in;
 -- and a fed bar. Assumes nothing.
 use Rattle.std.specs.Prelude.{Err, Ok}
-use Prim.Native.Nat.{ℕ, suc, ◌+◌, ◌-◌, ◌≤◌, ◌<◌, min}
+use Prim.Native.Nat.{ℕ, suc, ◌+◌, ◌-◌, ◌≤◌, ◌<◌}
 use mathlib.Core.Bool.{Bool, true, false, cond, not, ◌&&◌, ◌||◌, true≢false}
 use mathlib.Core.List.{List, [], ◌∷◌, ◌++◌, append_assoc, append-nil}
 use mathlib.Core.Path.{◌≡◌, refl, sym, ap, ◌∙◌}
 use native.Mathlib.Nat.{not-suc-le-zero}
 use native.Mathlib.Numerals.{add-one}
 use native.Mathlib.Omega.{arith}
-use borrow.Author.Tests.{ltb-true, ltb-false, leb-true, leb-false, eqb-true, lt-ltb, le-ltb, le-leb, eq-eqb, not-true}
+use borrow.Author.Tests.{ltb-true, ltb-false, leb-true, leb-false, eqb-true, lt-ltb, le-ltb, le-leb, not-true}
 use lib.Dec.{ltb, leb, eqb}
 use lib.ListN.{length, take, drop, replicate, length-append, length-take, take-append-drop, drop_of_length-le}
 use lib.Seq.{take_all, take-add, length-take-le}
@@ -259,40 +259,38 @@ module _ (s : State) where
       go true false true e = refl
       go true false false e = absurd (true≢false e)
 
--- ---- a loop's four tests
-pub guards : (a b c d : Bool) → (((a && b) && c) && d) ≡ true → (a ≡ true) × (b ≡ true) × (c ≡ true) × (d ≡ true)
-guards a b c d e =
-    let abc = both ((a && b) && c) d e in
-    let ab = both (a && b) c abc.0 in
+-- ---- a loop's three tests
+pub guards : (a b c : Bool) → ((a && b) && c) ≡ true → (a ≡ true) × (b ≡ true) × (c ≡ true)
+guards a b c e =
+    let ab = both (a && b) c e in
     let each = both a b ab.0 in
-    (each.0, each.1, ab.1, abc.1)
+    (each.0, each.1, ab.1)
 
 -- as the loop over a chunk has them, and back
-module _ (used len room written limit : ℕ) (stopped : Bool) where
+module _ (used len left : ℕ) (stopped : Bool) where
   abbrev pub goes : Bool
-  goes = ((ltb used len && not stopped) && eqb room line_room) && leb written limit
+  goes = (ltb used len && not stopped) && leb line_room left
 
-  pub goes_on : goes ≡ true → (used < len) × (stopped ≡ false) × (room ≡ line_room) × (written ≤ limit)
+  pub goes_on : goes ≡ true → (used < len) × (stopped ≡ false) × (line_room ≤ left)
   goes_on e =
-      let each = guards (ltb used len) (not stopped) (eqb room line_room) (leb written limit) e in
-      (ltb-true used len each.0, not-true stopped each.1, eqb-true room line_room each.2, leb-true written limit each.3)
+      let each = guards (ltb used len) (not stopped) (leb line_room left) e in
+      (ltb-true used len each.0, not-true stopped each.1, leb-true line_room left each.2)
 
-  pub would-go : used < len → stopped ≡ false → room ≡ line_room → written ≤ limit → goes ≡ true
-  would-go a b c d = rw (lt-ltb used len a, b, eq-eqb room line_room c, le-leb written limit d)
+  pub would-go : used < len → stopped ≡ false → line_room ≤ left → goes ≡ true
+  would-go a b c = rw (lt-ltb used len a, b, le-leb line_room left c)
 
 -- where the loop ends, no byte of the rest is taken in
-module _ (s : State) (chunk : List ℕ) (used room written len : ℕ) where
-  pub rest-stays : room ≡ min line_room len → written ≤ len → goes used (length chunk) room written (len - room) s.stopped ≡ false → used_of (len - written) s (drop used chunk) ≡ 0
+module _ (s : State) (chunk : List ℕ) (used left : ℕ) where
+  pub rest-stays : goes used (length chunk) left s.stopped ≡ false → used_of left s (drop used chunk) ≡ 0
   unfolding used_of
-  rest-stays is within e = go (leb (length chunk) used) s.stopped (ltb (len - written) line_room) refl refl refl
+  rest-stays e = go (leb (length chunk) used) s.stopped (ltb left line_room) refl refl refl
     where
-      go : (a b c : Bool) → leb (length chunk) used ≡ a → s.stopped ≡ b → ltb (len - written) line_room ≡ c → used_of (len - written) s (drop used chunk) ≡ 0
+      go : (a b c : Bool) → leb (length chunk) used ≡ a → s.stopped ≡ b → ltb left line_room ≡ c → used_of left s (drop used chunk) ≡ 0
       go true b c x y z = rw (drop_of_length-le chunk (leb-true (length chunk) used x))
-      go false true c x y z = used-none (len - written) s (drop used chunk) (rw y)
-      go false false true x y z = used-none (len - written) s (drop used chunk) (rw (y, z))
+      go false true c x y z = used-none left s (drop used chunk) (rw y)
+      go false false true x y z = used-none left s (drop used chunk) (rw (y, z))
       go false false false x y z =
-          let enough : line_room ≤ len - written = ltb-false (len - written) line_room z in
-          absurd (true≢false (sym (would-go used (length chunk) room written (len - room) s.stopped (leb-false (length chunk) used x) y (omega arith) (omega arith)) ∙ e))
+          absurd (true≢false (sym (would-go used (length chunk) left s.stopped (leb-false (length chunk) used x) y (ltb-false left line_room z)) ∙ e))
 
 -- ---- n bytes of a chunk more, after u of them
 module _ (s s' : State) (chunk : List ℕ) (u n : ℕ) (here : s' ≡ state_after s (take u chunk)) where

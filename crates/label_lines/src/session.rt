@@ -8,7 +8,7 @@ ghost use Rattle.label_lines.specs.Session.{state_of, session_of, fresh_state, s
 ghost use Rattle.label_lines.specs.SessionSteps.{Takes};
 
 use bar_box::BarBox;
-use measures::{Bar, least, put_bar};
+use measures::{Bar, put_bar};
 use output_lines::Stop;
 pub use output_lines::output::ROOM;
 use output_lines::output::{print_refusal, print_rows};
@@ -90,8 +90,8 @@ fn feed_bar(held: &mut BarBox, bar: Bar, out: &mut [u8], at: usize) -> Stepped
     }
 }
 
-// What a line that is no bar is refused by.
-fn stop_by(why: LineError) -> Stop
+// What a line that is no bar is refused by; the tally program's lines are refused by it too.
+pub fn stop_by(why: LineError) -> Stop
     ensures { result ≡ stop_by why }
 {
     match why {
@@ -144,15 +144,13 @@ pub fn absorb(st: Session, chunk: &[u8], out: &mut [u8]) -> Absorbed
     ensures within { result.written ≤ length out.old }
     ensures buffer { out.new ≡ overlay out.old 0 (prints (state_of st) (taken_bytes (length out.old) (state_of st) chunk.now)) }
 {
-    let room = least(ROOM, out.len());
-    let limit = out.len() - room;
     // the line anew, so that the session is one value also where no byte is used
     let line = lines::extend(st.line, &chunk[..0]);
     let mut session = Session { line, ..st };
     let mut used = 0usize;
     let mut written = 0usize;
     // no `for`: each turn takes the bytes of a whole line
-    while (used < chunk.len()) & !session.stopped & (room == ROOM) & (written <= limit) {
+    while (used < chunk.len()) & !session.stopped & (ROOM <= out.len() - written) {
         let next = advance(&mut session, &chunk[used..], out, written);
         used += next.used;
         written = next.written;

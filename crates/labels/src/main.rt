@@ -1,5 +1,8 @@
 // The labels program: reads lines of prices from standard input and prints the labels of each bar. What it prints is fixed by
 // label_lines; here is what moves bytes in and out.
+//
+// finish, read_some and main stand in the tally program too, over its own session: two mains have to be there, and one loop for both would
+// have to take absorb and end as closures, since that program prints nothing before the end.
 #![tactic(auto)]
 
 use label_lines::{Session, session};
@@ -29,7 +32,6 @@ fn finish(st: Session, output: &mut impl Write) {
     let _ = output.write_all(&out[..n]);
 }
 
-// Not one function with the tally program's, which differs in more than a type: it prints nothing before the end.
 // What one read brings: nothing at the input's end, where the line that has begun ends. A read that fails ends the program, and the line
 // that has begun is not judged.
 fn read_some(st: Session, input: &mut impl Read, output: &mut impl Write) -> Option<Session> {

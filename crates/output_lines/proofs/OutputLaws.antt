@@ -1,13 +1,14 @@
 -- The lines of a sheet one recogniser at a time, and how long a line is at most. Assumes nothing.
-use Prim.Native.Nat.{ℕ, suc, ◌+◌, ◌-◌, ◌*◌, ◌≤◌, ◌<◌}
+use Prim.Native.Nat.{ℕ, zero, suc, ◌+◌, ◌-◌, ◌*◌, ◌≤◌, ◌<◌}
 use mathlib.Core.Bool.{Bool, true, false, cond}
 use mathlib.Core.List.{List, [], ◌∷◌, ◌++◌}
-use mathlib.Core.Path.{◌≡◌, sym, ◌∙◌}
+use mathlib.Core.Path.{◌≡◌, refl, sym, ◌∙◌}
 use native.Mathlib.Omega.{arith}
 use borrow.Author.Tests.{le-leb, lt-leb}
 use lib.Dec.{eqb}
 use lib.ListN.{length, get_or, drop, length-append, drop_of_length-le}
 use lib.Seq.{drop-cons}
+use Rattle.std.specs.Simd.{first_chunks}
 use Rattle.measures.specs.Bar.{overlay}
 use Rattle.measures.proofs.Overlay.{overlay-none, overlay-more}
 use Rattle.label_texts.specs.LabelText.{bytes_of}
@@ -75,6 +76,17 @@ count_most k code count =
     omega (arith, all, number-most k comma, label-most code comma, number-most count line_feed)
 
 -- ---- the lines of a sheet
+
+-- the codes of a sheet two by two
+pub pair-at : (n k : ℕ) (s : List ℕ) → k < n → length s ≡ 2 * n → get_or (first_chunks 2 n s) k [] ≡ get_or s (2 * k) 0 ∷ get_or s (2 * k + 1) 0 ∷ []
+pair-at zero k s h e = absurd (omega arith)
+pair-at (suc n) k [] h e = absurd (omega arith)
+pair-at (suc n) k (a ∷ []) h e = absurd (omega arith)
+pair-at (suc n) zero (a ∷ b ∷ s) h e = refl
+pair-at (suc n) (suc k) (a ∷ b ∷ s) h e =
+    let first : 2 * suc k ≡ suc (suc (2 * k)) = omega arith in
+    let second : suc (suc (2 * k)) + 1 ≡ suc (suc (2 * k + 1)) = omega arith in
+    rw (first, second) (pair-at n k s (omega arith) (omega arith))
 
 pub rows-most : (ordinal k : ℕ) (codes : List ℕ) → 2 * length (row_lines ordinal k codes) ≤ longest_row * length codes
 unfolding row_lines

@@ -4,7 +4,7 @@ ghost use Rattle.label_texts.specs.LabelText.{bytes_of};
 ghost use Rattle.output_lines.specs.Output.{numeral, field, pair_line, row_lines, longest_row, longest_count, longest_refusal, line_room, goes_on, refusal_part, refusal_line, count_line, Written, Printed};
 
 use input_lines::lines::{COMMA, LINE_FEED};
-use label_texts::label_text::text_of;
+use label_texts::label_text::label_of;
 use recognisers::Refusal;
 use recognisers::counts::{RECOGNISERS, ROW_BYTES};
 use recognisers::refusals::refusal_number;
@@ -27,7 +27,7 @@ pub enum Stop {
     Price(u8),
 }
 
-// Whether no line was refused.
+// Whether no line was refused: is_none by its name here, which docs/INDEX.md, a definition and the tally program have.
 pub fn goes_on(stop: Option<Stop>) -> bool
     ensures { result ≡ goes_on stop }
 {
@@ -60,10 +60,7 @@ fn write_label(code: u8, end: u8, out: &mut [u8], at: usize) -> usize
     requires { at + 16 ≤ length out.old }
     ensures { Written out.old at (field (bytes_of code) end) out.new result }
 {
-    let label = text_of(code);
-    let bytes = label.bytes;
-    let n = label.len as usize;
-    write_field(&bytes[..n], end, out, at)
+    write_field(label_of(code).as_bytes(), end, out, at)
 }
 
 // The line of one recogniser, if its v1 isn't 其他.
@@ -88,7 +85,7 @@ fn write_part(ordinal: u64, why: Refusal, end: u8, out: &mut [u8], at: usize) ->
     let word = *b"refused";
     let a = write_field(&word, COMMA, out, at);
     let b = write_number(ordinal, COMMA, out, a);
-    write_number(refusal_number(why) as u64, end, out, b)
+    write_number(u64::from(refusal_number(why)), end, out, b)
 }
 
 // The line of a refusal.
@@ -100,7 +97,7 @@ fn write_stop(ordinal: u64, stop: Stop, out: &mut [u8], at: usize) -> usize
         Stop::By(why) => write_part(ordinal, why, LINE_FEED, out, at),
         Stop::Price(place) => {
             let behind = write_part(ordinal, Refusal::BadPrice, COMMA, out, at);
-            write_number(place as u64, LINE_FEED, out, behind)
+            write_number(u64::from(place), LINE_FEED, out, behind)
         }
     }
 }
@@ -117,10 +114,9 @@ pub fn print_rows(ordinal: u64, sheet: [u8; ROW_BYTES], out: &mut [u8], at: usiz
         return at;
     }
     let mut place = at;
-    for k in 0..RECOGNISERS {
-        let v1 = sheet[2 * k];
-        let v2 = sheet[2 * k + 1];
-        place = write_pair(ordinal, k as u64, v1, v2, out, place);
+    let (pairs, _) = sheet.as_chunks::<2>();
+    for (k, [v1, v2]) in pairs.iter().enumerate() {
+        place = write_pair(ordinal, k as u64, *v1, *v2, out, place);
     }
     place
 }

@@ -1,5 +1,5 @@
 // The tally program: reads the lines that the labels program reads and prints how often each label came up. What it prints is fixed by
-// tally_lines; here is what moves bytes in and out.
+// tally_lines; here is what moves bytes in and out, with finish, read_some and main of its own, as the labels program says.
 //
 // The gate's input, stdin, takes more than one read and more than one batch: 41 lines of whole numbers, and then 4,000 bars by this rule, in
 // hundredths, for i from 0: the close is c(i) = 10000 + (7919 × i × i + 104729 × i) mod 401; the open c(i - 1) + i mod 7 - 3, where c(-1) is

@@ -3,7 +3,6 @@
 use Rattle.std.specs.Prelude.{ℕ, ◌+◌, cond, List, [], ◌∷◌, ◌++◌, eqb, length, replicate, Ok, Err, Option, Some, None}
 use Rattle.answers.specs.Refusal.{Verdict}
 use Rattle.measures.specs.Bar.{Bar, prices_of}
-use Rattle.answers.specs.declared.refusals.Refusal.TheVariants as refusal
 use Rattle.recognisers.specs.Number.{row_bytes}
 use Rattle.recognisers.specs.Threshold.{standard_set}
 use Rattle.box_record.specs.declared.boxes.BarBox.{BarBox}
@@ -13,11 +12,11 @@ use Rattle.bar_box.specs.History.{Feed}
 use Rattle.tallies.specs.declared.table.TallyRow.{TallyRow}
 use Rattle.tallies.specs.Tally.{fresh_tally}
 use Rattle.tallies.specs.Feed.{Tallied, lent, tallied_of}
-use Rattle.text.specs.declared.line_text.LineError.TheVariants.{BadShape, BadPrice}
 use Rattle.text.specs.LineText.{Line, line_of}
 use Rattle.input_lines.specs.Lines.{line_feed, kept_line, content, partial_of}
-use Rattle.output_lines.specs.declared.output.Stop.{Stop, TheVariants.By, TheVariants.Price}
+use Rattle.output_lines.specs.declared.output.Stop.{Stop, TheVariants.By}
 use Rattle.output_lines.specs.Output.{goes_on, refusal_line}
+use Rattle.label_lines.specs.Output.{stop_by as refused_by}
 use Rattle.tally_lines.specs.declared.session.Session.{Session}
 use Rattle.tally_lines.specs.Output.{lines_of_tally}
 
@@ -36,8 +35,7 @@ line_bars (Err e) = []
 
 abbrev pub line_stop : Line → Option Stop
 line_stop (Ok bar) = None
-line_stop (Err BadShape) = Some (By refusal.BadShape)
-line_stop (Err (BadPrice place)) = Some (Price place)
+line_stop (Err why) = Some (refused_by why)
 
 -- the end of a line behind these bars: its bar follows them, and reading goes on; a line that is no bar is refused, and it doesn't
 abbrev pub after_line : Line → List Bar → (List Bar → Read) → Read

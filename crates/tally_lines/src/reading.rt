@@ -6,11 +6,11 @@ ghost use Rattle.input_lines.specs.Lines.{content, partial_of};
 ghost use Rattle.tally_lines.specs.Session.{read_from, line_bars, line_stop};
 ghost use Rattle.tally_lines.specs.SessionSteps.{gathered_of};
 
+use label_lines::session::stop_by;
 use measures::put_bar;
 use output_lines::Stop;
-use recognisers::Refusal;
 use text::lines::LINE_FEED;
-use text::{LineError, Partial, lines, read_partial};
+use text::{Partial, lines, read_partial};
 
 // The line that has begun behind the bytes used, the bars read, and what a line was refused by.
 #[derive(Clone, Copy)]
@@ -40,18 +40,15 @@ fn end_line(line: Partial, used: usize, prices: &mut [f64], n: usize) -> Gathere
                 ..ended
             }
         }
-        Err(LineError::BadShape) => Gathered {
-            stop: Some(Stop::By(Refusal::BadShape)),
-            ..ended
-        },
-        Err(LineError::BadPrice(place)) => Gathered {
-            stop: Some(Stop::Price(place)),
+        Err(why) => Gathered {
+            stop: Some(stop_by(why)),
             ..ended
         },
     }
 }
 
-// Bytes up to the end of a line, or all of them if none ends there, behind n bars.
+// Bytes up to the end of a line, or all of them if none ends there, behind n bars. What the labels program's advance has too is the two
+// calls at its front; what either leaves is its own.
 fn next_line(line: Partial, chunk: &[u8], prices: &mut [f64], n: usize) -> Gathered
     requires { (1 ≤ length chunk.now) × (4 * (n + 1) ≤ length prices.old) }
     ensures le_used { (1 ≤ result.used) × (result.used ≤ length chunk.now) × (result.bars ≤ n + 1) }

@@ -31,9 +31,9 @@ advance-next-requires c =
     let inv = loop.invariant in
     let args = c.args in
     let chunk = args.chunk.now in
-    let sure = goes_on loop.used (length chunk) c.least-room.result loop.written _ loop.session.stopped c.loop-used-test.true in
+    let sure = goes_on loop.used (length chunk) (length loop.out - loop.written) loop.session.stopped c.loop-used-test.true in
     let rest : length (take (length chunk - loop.used) (drop loop.used chunk)) ≡ length chunk - loop.used = rw (to_end chunk loop.used, length-drop) in
-    (sure.1, rw rest (omega (arith, sure.0)), omega (arith, inv.2, sure.2, sure.3, c.least-room.ensures))
+    (sure.1, rw rest (omega (arith, sure.0)), omega (arith, sure.2))
 
 pub overflow_add-used : goal.overflow_add-used
 overflow_add-used c =
@@ -50,7 +50,7 @@ loop-used-preserved c =
     let args = c.args in
     let chunk = args.chunk.now in
     let s : State = record { line = content c.extend-line.result; box = args.st.held; stopped = args.st.stopped } in
-    let sure = goes_on loop.used (length chunk) c.least-room.result loop.written _ loop.session.stopped c.loop-used-test.true in
+    let sure = goes_on loop.used (length chunk) (length loop.out - loop.written) loop.session.stopped c.loop-used-test.true in
     let turn = c.advance-next in
     let did = rw (to_end chunk loop.used) at turn.ensures in
     let here : state_of loop.session ≡ state_after s (take loop.used chunk) = rw inv.3 (state-session _) in
@@ -61,7 +61,7 @@ loop-used-preserved c =
     let wrote = did.printed in
     let left : length loop.out - loop.written ≡ length args.out.now - length before = omega (arith, inv.2, inv.4.0) in
     let used-on = turn-used s (state_of loop.session) chunk loop.used turn.result.used here (length args.out.now) inv.0 inv.5 (rw left at did.used.2) in
-    let room-left : loop.written + length more ≤ length args.out.now = omega (arith, wrote.0, wrote.1.0, sure.2, sure.3, c.least-room.ensures) in
+    let room-left : loop.written + length more ≤ length args.out.now = omega (arith, wrote.0, wrote.1.0, sure.2, inv.2) in
     let same = ap length wrote.1.1 ∙ length-overlay loop.out loop.written more (omega (arith, room-left, inv.2)) in
     let joined = written_on args.out.now 0 before loop.out loop.written more _ _ room-left inv.4 wrote.1 in
     (omega (arith, inv.0, rw length-drop at did.used.1), omega (arith, wrote.1.0, room-left), same ∙ inv.2, rw leaves-on did.session, rw prints-on joined, used-on)
@@ -80,7 +80,7 @@ returns c =
     let kept : content extended.result ≡ s.line = rw (took, content-partial (kept_line (s.line ++ [])), append-nil) (take_all (suc longest_line) s.line short) in
     let inv = rw kept at loop.invariant in
     let here : state_of loop.session ≡ state_after s (take loop.used chunk) = rw inv.3 (state-session _) in
-    let none = rest-stays (state_of loop.session) chunk loop.used c.least-room.result loop.written len c.least-room.ensures inv.1 c.loop-used-test.false in
+    let none = rest-stays (state_of loop.session) chunk loop.used (length loop.out - loop.written) c.loop-used-test.false in
     let size : loop.written ≡ length (prints s (take loop.used chunk)) = omega (arith, inv.4.0) in
-    let all : used_of len s chunk ≡ loop.used = used_all s chunk loop.used len inv.0 inv.5 (rw (here, size) at none) in
+    let all : used_of len s chunk ≡ loop.used = used_all s chunk loop.used len inv.0 inv.5 (rw (inv.2, here, size) at none) in
     record { answer = rw (all, inv.3, size); within = inv.1; buffer = rw all inv.4.1 }

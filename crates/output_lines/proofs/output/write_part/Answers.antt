@@ -20,7 +20,7 @@ returns c =
     let z = field (numeral (refusal_number args.why)) args.end in
     let y-most = number-most args.ordinal comma in
     let z-most = number-most (refusal_number args.why) args.end in
-    let last = rw c.refusal_number.ensures at c.write_number.ensures in
+    let last = rw (c.from.ensures, c.refusal_number.ensures) at c.write_number.ensures in
     let two = written_on s _ x _ _ y _ _ (omega (arith, y-most)) c.write_field-a.ensures c.write_number-b.ensures in
     let all = written_on s _ (x ++ y) _ _ z _ _ (omega (arith, y-most, z-most)) two last in
     (omega (arith, y-most, z-most, last.0), all)
