@@ -21,6 +21,6 @@ returns-in-Price c =
     let y = field (numeral c.in-Price.place) line_feed in
     let y-most = number-most c.in-Price.place line_feed in
     let part = c.write_part-behind.ensures in
-    let last = (rw c.from.ensures at c.write_number.ensures) in
+    let last = rw c.from.ensures at c.write_number.ensures in
     let all = written_on s _ x _ _ y _ _ (omega (arith, part.0, y-most)) part.1 last in
     rw c.in-Price.is (omega (arith, part.0, y-most, last.0), all)
