@@ -1,20 +1,22 @@
 -- Numbers into a table, and a table into numbers. Assumes nothing.
-use Prim.Native.Nat.{ℕ, ◌+◌, ◌/◌, ◌%◌, ◌<◌}
-use mathlib.Core.List.{List, []}
-use mathlib.Core.Path.{◌≡◌, ◌∙◌}
+use Prim.Native.Nat.{ℕ, zero, suc, ◌+◌, ◌/◌, ◌%◌, ◌<◌}
+use mathlib.Core.List.{List, map}
+use mathlib.Core.Path.{◌≡◌, refl, ◌∙◌}
 use native.Mathlib.Omega.{arith}
-use lib.ListN.{length, get_or, replicate, length-replicate, get_or-replicate}
-use Rattle.recognisers.specs.Number.{recognisers, labels}
+use lib.ListN.{length, get_or, replicate, length-replicate}
+use Rattle.recognisers.specs.Number.{labels}
 use Rattle.tallies.specs.declared.table.TallyRow.{TallyRow}
-use Rattle.tallies.specs.Tally.{row_of_counts, fresh_tally, cell_of}
+use Rattle.std.specs.List.{range_with_len}
+use Rattle.tallies.specs.Tally.{by_place, cell_of}
 use Rattle.tallies.specs.Count.{cells}
 use Rattle.tallies.proofs.PlaceLaws.{length-places, at_place}
 use Rattle.exports.specs.Tally.{numbers_of}
 
--- a row of the fresh table
-pub fresh-row : (k : ℕ) → k < recognisers → get_or fresh_tally k (row_of_counts []) ≡ row_of_counts (replicate labels 0)
-unfolding fresh_tally
-fresh-row k known = get_or-replicate recognisers k (row_of_counts (replicate labels 0)) (row_of_counts []) known
+-- a list of one value, each place changed
+pub places-made : {A : Type 0} (f : ℕ → A → A) (h : ℕ → A) (z : A) (i n : ℕ) → ((j : ℕ) → f j z ≡ h j) → map h (range_with_len i n) ≡ by_place f i (replicate n z)
+unfolding by_place
+places-made f h z i zero e = refl
+places-made f h z i (suc n) e = rw (e i, places-made f h z (i + 1) n e)
 
 pub length-numbers : (tally : List TallyRow) → length (numbers_of tally) ≡ cells
 unfolding numbers_of

@@ -54,7 +54,7 @@ pub extern "C" fn jcc_feed(
     u32::from(verdict_number(verdict))
 }
 
-// The same feeds, then one look at the box that they leave, which answers for a refused feed too.
+// The same feeds, then one look at the box that they leave; after a refused feed no look is made, and its refusal is handed on.
 fn look_after(
     recogniser: u32,
     offset: u32,

@@ -14,10 +14,11 @@ use part_feeds::feed_parts;
 use recognisers::counts::{LABELS, RECOGNISERS};
 use recognisers::refusals::verdict_number;
 use recognisers::{Refusal, Thresholds};
+use std::array::from_fn;
 use tallies::TallyRow;
 use term_calls::number_at;
 
-// The numbers of a table.
+// The numbers of a table. `tallies` has the same constant in a module of its own, which it doesn't hand out.
 const CELLS: usize = LABELS * RECOGNISERS;
 
 // The row of recogniser k.
@@ -25,25 +26,20 @@ fn row_of(numbers: &[u32], k: usize) -> TallyRow
     requires { k < recognisers }
     ensures { result.counts ≡ gain_row (λ c. get_or numbers.now (labels * k + c) 0) (replicate labels 0) }
 {
-    let mut counts = [0u32; LABELS];
-    for c in 0..LABELS {
-        counts[c] = number_at(numbers, LABELS * k + c);
+    TallyRow {
+        counts: from_fn(|c| number_at(numbers, LABELS * k + c)),
     }
-    TallyRow { counts }
 }
 
 // The table with these numbers.
 fn table_of(numbers: &[u32]) -> [TallyRow; RECOGNISERS]
     ensures { result ≡ tally_in numbers.now }
 {
-    let mut tally = tallies::fresh();
-    for k in 0..RECOGNISERS {
-        tally[k] = row_of(numbers, k);
-    }
-    tally
+    from_fn(|k| row_of(numbers, k))
 }
 
-// Writes the table's numbers, as far as there are places for them.
+// Writes the table's numbers, as far as there are places for them. Row and column come from the place's index, which `iter_mut().enumerate()`
+// would count too, and of what is written through an adapter of `iter_mut` a proof knows nothing.
 fn put(tally: [TallyRow; RECOGNISERS], numbers: &mut [u32])
     ensures { numbers.new ≡ written_to numbers.old (numbers_of tally) }
 {

@@ -13,6 +13,7 @@ use crate::numbers::number_at;
 use recognisers::Refusal;
 use recognisers::counts::ROW_BYTES;
 use recognisers::refusals::refusal_number;
+use std::array::from_fn;
 use terms::Layer;
 use trading_hours::{DayWindow, Hours};
 
@@ -30,17 +31,12 @@ fn window_of(numbers: &[u32], i: usize) -> DayWindow
     }
 }
 
-// The hours with these numbers. The four places are written out: `array::from_fn` over them is no shorter.
+// The hours with these numbers. A count of 5 is too many windows: the C interface (jcc_terms) says so, and the making refuses it.
 pub fn hours_of(numbers: &[u32]) -> Hours
     ensures { result ≡ hours_in numbers.now }
 {
     Hours {
-        windows: [
-            window_of(numbers, 0),
-            window_of(numbers, 1),
-            window_of(numbers, 2),
-            window_of(numbers, 3),
-        ],
+        windows: from_fn(|i| window_of(numbers, i)),
         count: numbers.len().div_ceil(2).min(MOST_WINDOWS + 1) as u32,
     }
 }
@@ -68,7 +64,7 @@ fn put_answer(answer: Result<usize, Refusal>, answers: &mut [u32], i: usize)
     }
 }
 
-// One call of a size, lent the prices and stamps that are left.
+// One call of a size, lent the prices and stamps that are left. A size of 0 is a close: the C interface (jcc_terms) says so.
 fn make_call(
     l: &mut Layer,
     size: u32,

@@ -8,7 +8,7 @@ use measures::{Bar, max, min};
 use trading_hours::{Hours, hours};
 
 // What is carried from one bar to the next: the stamp of the last bar taken in, and the open term bar.
-#[derive(Clone, Copy)]
+#[derive(Clone, Copy, Default)]
 pub struct Carried {
     pub last: Option<u32>,
     pub pending: Option<Bar>,
@@ -33,7 +33,7 @@ fn join(a: Bar, b: Bar) -> Bar
     }
 }
 
-// The end of the term of the last stamp.
+// The end of the term of the last stamp. 0 for none, not an `Option`: each stamp is then at or above it, so that nothing has to be asked bar by bar.
 pub(crate) fn end_after(h: Hours, m: u32, last: Option<u32>) -> usize
     ensures { result ≡ end_after h m last }
 {
@@ -105,7 +105,7 @@ pub struct Passed {
 }
 
 // Passes bars from one on until none is left or the next one ends a term bar for which there is no room; the prices of those that ended go
-// to the front of a run.
+// to the front of a run. Prices and stamps are two slices, since jcc_terms and `terms::run` are lent them so.
 pub fn pass(
     h: Hours,
     m: u32,

@@ -1,5 +1,5 @@
-// Why a making, a run or a close is refused. Hours, term length and what is carried come one by one, here and in `events::pass`, as callers hand them
-// to the public functions: a struct for the private ones alone would be made and taken apart again in each.
+// Why a making, a run or a close is refused. Hours, term length and what is carried come one by one: the public functions make_verdict, run_verdict,
+// close_verdict and `events::pass`, which docs/ name, take them so.
 ghost use Rattle.std.specs.Prelude.{◌≡◌};
 ghost use Rattle.recognisers.specs.Refusal.{first_true};
 ghost use Rattle.term_events.specs.Verdicts.{sound_carried, valid_layer, above, stamps_tried, make_verdict, run_verdict, close_verdict};
@@ -36,10 +36,7 @@ pub fn make_verdict(t: Thresholds, h: Hours, m: u32) -> Result<(), Refusal>
     if !t.is_valid() {
         return Err(Refusal::BadThreshold);
     }
-    let none = Carried {
-        last: None,
-        pending: None,
-    };
+    let none = Carried::default();
     if !layer_valid(h, m, none) {
         return Err(Refusal::BadLayer);
     }

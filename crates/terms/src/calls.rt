@@ -63,7 +63,7 @@ fn take_bars(l: &mut Layer, prices: &[f64], stamps: &[u32], sheet: &mut [u8]) ->
 }
 
 // Takes a run of bars in, one stamp a bar, and writes a row for each term bar that ended, or refuses and leaves layer and sheet as they
-// were. The answer is how many rows were filled.
+// were. The answer is how many rows were filled. Prices and stamps are two slices, since the C interface (jcc_terms) lends them so.
 pub fn run(
     l: &mut Layer,
     prices: &[f64],
@@ -108,6 +108,7 @@ pub fn close(l: &mut Layer, sheet: &mut [u8]) -> Result<usize, Refusal>
     match l.carried.pending.take() {
         None => Ok(0),
         Some(bar) => {
+            // no `measures::put_bar`: it writes into a run, and this is the whole run
             let prices = [bar.open, bar.close, bar.high, bar.low];
             bar_box::feed(&mut l.inner, &prices, sheet).unwrap();
             Ok(1)

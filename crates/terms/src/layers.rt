@@ -28,7 +28,7 @@ pub(crate) fn whole_day() -> Hours
     ensures { result ≡ whole_day }
 {
     let all = DayWindow { from: 0, to: 1440 };
-    let none = DayWindow { from: 0, to: 0 };
+    let none = DayWindow::default();
     Hours {
         windows: [all, none, none, none],
         count: 1,
@@ -41,10 +41,7 @@ pub(crate) fn fresh(t: Thresholds, hours: Hours, minutes: u32) -> Layer
 {
     Layer {
         inner: bar_box::fresh(t),
-        carried: Carried {
-            last: None,
-            pending: None,
-        },
+        carried: Carried::default(),
         hours,
         minutes,
     }
