@@ -3,11 +3,10 @@ ghost use Rattle.std.specs.Prelude.{◌+◌, ◌≤◌};
 
 use crate::digest::{mix, of_box, of_bytes, of_looks};
 use bar_box::BarBox;
-use measures::least;
 use recognisers::counts::ROW_BYTES;
 use recognisers::refusals::verdict_number;
 use recognisers::{Refusal, Thresholds};
-use std::num::wrapping_add_u64;
+use std::ops::Range;
 use test_output::{digest, number};
 
 // The most bars of a history here, and a sheet with room for a row more than that has. A byte that is not written shows: it is 255,
@@ -43,48 +42,51 @@ pub struct Left {
     pub looks: u64,
 }
 
-// The lent prices from one on, before another, as far as there are any.
-pub fn part(prices: &[f64], from: usize, to: usize) -> &[f64] {
-    let e = least(to, prices.len());
-    let a = least(from, e);
+// How many bars a history has.
+pub fn bars_in(prices: &[f64]) -> usize
+    ensures { result ≤ 300 }
+{
+    measures::count(prices).min(BARS)
+}
+
+// The lent prices in a range, as far as there are any.
+pub fn part(prices: &[f64], range: Range<usize>) -> &[f64] {
+    let e = range.end.min(prices.len());
+    let a = range.start.min(e);
     &prices[a..e]
 }
 
-// A feed that is lent the bytes of a sheet from one on, before another.
+// A feed that is lent a range of the bytes of a sheet, as far as there are any.
 pub fn feed_to(
     b: &mut BarBox,
     prices: &[f64],
     sheet: &mut [u8],
-    from: usize,
-    to: usize,
+    range: Range<usize>,
 ) -> Result<(), Refusal> {
-    let e = least(to, sheet.len());
-    let a = least(from, e);
+    let e = range.end.min(sheet.len());
+    let a = range.start.min(e);
     bar_box::feed(b, prices, &mut sheet[a..e])
 }
 
-// One feed more, if it is wanted.
-fn feed(f: &mut Fed, wanted: bool, prices: &[f64], sheet: &mut [u8], from: usize, to: usize) {
-    if !wanted {
-        return;
-    }
-    let verdict = feed_to(&mut f.after, prices, sheet, from, to);
-    f.accepted = wrapping_add_u64(f.accepted, u64::from(verdict.is_ok()));
-    f.refused = wrapping_add_u64(f.refused, u64::from(verdict.is_err()));
+// One feed more.
+fn feed(f: &mut Fed, prices: &[f64], sheet: &mut [u8], range: Range<usize>) {
+    let verdict = feed_to(&mut f.after, prices, sheet, range);
+    f.accepted = f.accepted.wrapping_add(u64::from(verdict.is_ok()));
+    f.refused = f.refused.wrapping_add(u64::from(verdict.is_err()));
     f.verdicts = mix(f.verdicts, u64::from(verdict_number(verdict)));
 }
 
 // Two feeds of n bars from a bar on that are refused, 4 and 6: a price is missing, then a byte. They are lent rows that are written
 // already, which they would spoil.
-fn feed_refused(f: &mut Fed, wanted: bool, prices: &[f64], sheet: &mut [u8], bar: usize, n: usize)
+fn feed_refused(f: &mut Fed, prices: &[f64], sheet: &mut [u8], bar: usize, n: usize)
     requires { bar + n ≤ 300 }
 {
     let a = 4 * bar;
     let e = 4 * (bar + n);
     let at = ROW_BYTES * bar;
     let end = ROW_BYTES * (bar + n);
-    feed(f, wanted, part(prices, a + 1, e), sheet, at, end);
-    feed(f, wanted, part(prices, a, e), sheet, at + 1, end);
+    feed(f, part(prices, a + 1..e), sheet, at..end);
+    feed(f, part(prices, a..e), sheet, at + 1..end);
 }
 
 // The feeds of n bars from a bar on; their rows go to their place of the sheet.
@@ -94,9 +96,13 @@ fn feed_turn(f: &mut Fed, cut: Cut, prices: &[f64], sheet: &mut [u8], bar: usize
     let a = 4 * bar;
     let e = 4 * (bar + n);
     let at = ROW_BYTES * bar;
-    feed(f, cut.empty, part(prices, a, a), sheet, at, SHEET);
-    feed(f, true, part(prices, a, e), sheet, at, SHEET);
-    feed_refused(f, cut.refused, prices, sheet, bar, n);
+    if cut.empty {
+        feed(f, &[], sheet, at..SHEET);
+    }
+    feed(f, part(prices, a..e), sheet, at..SHEET);
+    if cut.refused {
+        feed_refused(f, prices, sheet, bar, n);
+    }
 }
 
 // How many bars a feed takes: never none, so that the feeds end.
@@ -105,13 +111,13 @@ fn size(cut: Cut, done: usize, left: usize) -> usize
     ensures { (1 ≤ result) × (result ≤ left) }
 {
     let want = if done == 0 { cut.first } else { cut.later };
-    if want == 0 { 1 } else { least(want, left) }
+    want.min(left).max(1)
 }
 
 fn feed_all(cut: Cut, prices: &[f64], sheet: &mut [u8]) -> Fed {
     let made = bar_box::make(Thresholds::standard());
     let after = made.after;
-    let bars = least(measures::count(prices), BARS);
+    let bars = bars_in(prices);
     let mut f = Fed {
         after,
         accepted: 0,
@@ -142,7 +148,7 @@ pub fn run(cut: Cut, prices: &[f64]) -> Left {
     let left = Left {
         sheet: of_bytes(&sheet),
         places: of_box(b),
-        looks: of_looks(b),
+        looks: of_looks(|k, di| bar_box::look(b, k, di)),
     };
     write(left);
     number(b" accepted ", f.accepted);

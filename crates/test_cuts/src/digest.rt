@@ -1,7 +1,7 @@
 // Digests: equal things have equal ones, and things that differ nearly always do not.
 use bar_box::{BarBox, KeptBar};
-use measures::{Bar, least};
-use recognisers::counts::{PLACES, RECOGNISERS};
+use measures::Bar;
+use recognisers::counts::RECOGNISERS;
 use recognisers::{Judged, Refusal, answer_in, answer_number, ordinal_in};
 use std::num::f64_to_bits_with_nan;
 
@@ -37,28 +37,17 @@ fn mix_bar(d: u64, bar: Bar) -> u64 {
 }
 
 // A digest after what a place holds.
-pub fn mix_place(d: u64, bar: Bar, ordinal: u64) -> u64 {
-    mix(mix_bar(d, bar), ordinal)
+pub fn mix_place(d: u64, place: KeptBar) -> u64 {
+    mix(mix_bar(d, place.bar), u64::from(place.ordinal))
 }
 
-fn mix_kept(d: u64, place: KeptBar) -> u64 {
-    mix_place(d, place.bar, u64::from(place.ordinal))
-}
-
-// Of what the places hold from one on, before another.
-pub fn of_places(bars: [KeptBar; PLACES], from: usize, to: usize) -> u64 {
-    let end = least(to, PLACES);
-    let mut d = 1;
-    for i in from..end {
-        d = mix_kept(d, bars[i]);
-    }
-    d
+pub fn of_places(places: &[KeptBar]) -> u64 {
+    places.iter().fold(1, |d, place| mix_place(d, *place))
 }
 
 // Of the count and of all places.
 pub fn of_box(b: BarBox) -> u64 {
-    let bars = b.bars;
-    mix(of_places(bars, 0, PLACES), u64::from(b.count))
+    mix(of_places(&b.bars), u64::from(b.count))
 }
 
 pub fn of_bytes(s: &[u8]) -> u64 {
@@ -66,20 +55,20 @@ pub fn of_bytes(s: &[u8]) -> u64 {
 }
 
 // A digest after what a look answers, as a number, and its ordinal.
-pub fn mix_look(d: u64, number: u32, ordinal: u64) -> u64 {
-    mix(mix(d, u64::from(number)), ordinal)
+fn mix_look(d: u64, a: Result<Judged, Refusal>) -> u64 {
+    let number = answer_number(answer_in(a));
+    mix(mix(d, u64::from(number)), u64::from(ordinal_in(a)))
 }
 
-fn mix_answer(d: u64, a: Result<Judged, Refusal>) -> u64 {
-    mix_look(d, answer_number(answer_in(a)), u64::from(ordinal_in(a)))
-}
-
-// Of all that can be seen by looking.
-pub fn of_looks(b: BarBox) -> u64 {
+// Of all that can be seen by looking: what a look answers at each recogniser and offset. Two loops, since in a fold within a fold the goal
+// `fold-requires-clause-callable` did not close.
+pub fn of_looks<Look: Fn(u32, u32) -> Result<Judged, Refusal>>(look: Look) -> u64
+    requires pre { (f : _) (k : _) (di : _) → Look.pre f k di }
+{
     let mut d = 1;
     for k in 0..KINDS {
         for di in 0..OFFSETS {
-            d = mix_answer(d, bar_box::look(b, k, di));
+            d = mix_look(d, look(k, di));
         }
     }
     d

@@ -2,13 +2,14 @@
 use crate::cuts::{SHEET, feed_to};
 use crate::digest::{KINDS, of_box, of_bytes, of_places};
 use bar_box::BarBox;
-use recognisers::counts::{PLACES, ROW_BYTES};
+use recognisers::counts::ROW_BYTES;
 use recognisers::label::code;
 use recognisers::refusals::{refusal_number, verdict_number};
 use recognisers::{Judged, Refusal, Thresholds, answer_in, answer_number};
 use test_output::{digest, number};
 
-// The standard set but for the i-th threshold: x where that is a float, else n.
+// The standard set but for the i-th threshold: x where that is a float, else n. By number, since thresholds has thirteen makings in this
+// order, and an array of closures would be no plainer.
 pub fn changed(i: u32, x: f64, n: u32) -> Thresholds {
     let mut t = Thresholds::standard();
     match i {
@@ -37,33 +38,31 @@ pub fn write_makings(x: f64, n: u32) {
     }
 }
 
-// The box after a feed that has room for all rows.
-pub fn fed(mut b: BarBox, prices: &[f64]) -> BarBox {
+// A feed that has room for all rows.
+pub fn grow(b: &mut BarBox, prices: &[f64]) {
     let mut sheet = [255u8; SHEET];
-    let _ = feed_to(&mut b, prices, &mut sheet, 0, SHEET);
-    b
+    let _ = feed_to(b, prices, &mut sheet, 0..SHEET);
 }
 
 // A sheet with room for three bars.
 const SMALL_SHEET: usize = 3 * ROW_BYTES;
 
 // So many bytes of such a sheet are lent. Writes the verdict, then the box and the whole sheet after it.
-pub fn feed(mut b: BarBox, prices: &[f64], lent: usize) -> BarBox {
+pub fn feed(b: &mut BarBox, prices: &[f64], lent: usize) {
     let mut sheet = [255u8; SMALL_SHEET];
-    let verdict = feed_to(&mut b, prices, &mut sheet, 0, lent);
+    let verdict = feed_to(b, prices, &mut sheet, 0..lent);
     number(b": ", u64::from(verdict_number(verdict)));
     number(b" count ", u64::from(b.count));
-    digest(b" box ", of_box(b));
+    digest(b" box ", of_box(*b));
     digest(b" sheet ", of_bytes(&sheet));
-    b
 }
 
 pub fn write_places(b: BarBox) {
     let bars = b.bars;
     number(b": count ", u64::from(b.count));
-    digest(b", 0 to 9 ", of_places(bars, 0, 10));
-    digest(b", 10 to 12 ", of_places(bars, 10, 13));
-    digest(b", 13 to 63 ", of_places(bars, 13, PLACES));
+    digest(b", 0 to 9 ", of_places(&bars[..10]));
+    digest(b", 10 to 12 ", of_places(&bars[10..13]));
+    digest(b", 13 to 63 ", of_places(&bars[13..]));
 }
 
 // The judged bar's ordinal; a refused look has none.

@@ -34,10 +34,10 @@ mod script;
 
 use bar_box::{BarBox, KeptBar};
 use cuts::{BARS, Cut, Left};
-use measures::{Bar, least};
+use measures::Bar;
 use recognisers::Thresholds;
 use recognisers::counts::PLACES;
-use script::{EMPTY, Line, float};
+use script::{Line, float};
 use test_output::{STDIN_FILENO, text};
 
 const PRICES: usize = 4 * BARS;
@@ -47,20 +47,20 @@ const WORD: u64 = 0x1_0000_0000;
 // A wrong ordinal, which a caller has put into every place.
 const FILLED: u32 = 7;
 
-#[derive(Clone, Copy)]
+#[derive(Drop)]
 struct History {
     prices: [f64; PRICES],
     bars: usize,
 }
 
-// What every cut should leave, and whether each has done so.
-#[derive(Clone, Copy)]
+// What every cut should leave, none before a plain call, and whether each has done so.
+#[derive(Drop)]
 struct Seen {
-    expected: Left,
+    expected: Option<Left>,
     same: bool,
 }
 
-#[derive(Clone, Copy)]
+#[derive(Drop)]
 struct State {
     history: History,
     held: BarBox,
@@ -69,47 +69,40 @@ struct State {
 
 fn start() -> State {
     let made = bar_box::make(Thresholds::standard());
-    let held = made.after;
-    let left = Left {
-        sheet: 0,
-        places: 0,
-        looks: 0,
-    };
     State {
         history: History {
             prices: [0.0; PRICES],
             bars: 0,
         },
-        held,
+        held: made.after,
         seen: Seen {
-            expected: left,
+            expected: None,
             same: true,
         },
     }
 }
 
-// A bar for which there is no room takes the place of the last.
-fn with_bar(h: History, line: Line) -> History {
-    let mut prices = h.prices;
-    let i = least(h.bars, BARS - 1);
-    prices[4 * i] = float(line.a);
-    prices[4 * i + 1] = float(line.b);
-    prices[4 * i + 2] = float(line.c);
-    prices[4 * i + 3] = float(line.d);
-    History {
-        prices,
-        bars: i + 1,
+impl History {
+    fn lent(&self) -> &[f64] {
+        measures::first_bars(&self.prices, self.bars)
     }
-}
 
-// The history after a step.
-fn history_after(h: History, line: Line) -> History {
-    let letter = line.letter;
-    let prices = h.prices;
-    match letter {
-        b'0'..=b'9' | b'x' => with_bar(h, line),
-        b'h' => History { prices, bars: 0 },
-        _ => h,
+    // A bar for which there is no room takes the place of the last.
+    fn push(&mut self, line: Line) {
+        let i = self.bars.min(BARS - 1);
+        self.prices[4 * i] = float(line.a);
+        self.prices[4 * i + 1] = float(line.b);
+        self.prices[4 * i + 2] = float(line.c);
+        self.prices[4 * i + 3] = float(line.d);
+        self.bars = i + 1;
+    }
+
+    fn step(&mut self, line: Line) {
+        match line.letter {
+            Some(b'0'..=b'9' | b'x') => self.push(line),
+            Some(b'h') => self.bars = 0,
+            _ => {}
+        }
     }
 }
 
@@ -132,28 +125,25 @@ fn occupied(x: f64) -> BarBox {
     }
 }
 
-// The box after a step.
-fn box_after(held: BarBox, line: Line, prices: &[f64]) -> BarBox {
-    let letter = line.letter;
-    let bars = held.bars;
-    match letter {
-        b'm' => {
+// What a step does to the box.
+fn step_box(held: &mut BarBox, line: Line, prices: &[f64]) {
+    match line.letter {
+        Some(b'm') => {
             let made = bar_box::make(limits::changed(8, float(line.d), 0));
-            made.after
+            *held = made.after;
         }
-        b'o' => occupied(float(line.d)),
-        b'e' => BarBox {
-            thresholds: limits::changed(8, float(line.c), 0),
-            count: (line.d % WORD) as u32,
-            bars,
-        },
-        b'g' => limits::fed(held, measures::first_bars(prices, line.d as usize)),
-        b'f' => limits::feed(
+        Some(b'o') => *held = occupied(float(line.d)),
+        Some(b'e') => {
+            held.thresholds = limits::changed(8, float(line.c), 0);
+            held.count = (line.d % WORD) as u32;
+        }
+        Some(b'g') => limits::grow(held, measures::first_bars(prices, line.d as usize)),
+        Some(b'f') => limits::feed(
             held,
-            cuts::part(prices, line.b as usize, line.c as usize),
+            cuts::part(prices, line.b as usize..line.c as usize),
             line.d as usize,
         ),
-        _ => held,
+        _ => {}
     }
 }
 
@@ -174,77 +164,62 @@ fn cut_of(line: Line) -> Cut {
     }
 }
 
-// What is seen of the cuts after a step.
-fn seen_after(seen: Seen, line: Line, prices: &[f64]) -> Seen {
-    let letter = line.letter;
-    let expected = seen.expected;
-    match letter {
-        b'p' => {
-            let left = plain::left(prices);
-            cuts::write(left);
-            Seen {
-                expected: left,
-                same: true,
+impl Seen {
+    fn step(&mut self, line: Line, prices: &[f64]) {
+        match line.letter {
+            Some(b'p') => {
+                let left = plain::left(prices);
+                cuts::write(left);
+                self.expected = Some(left);
+                self.same = true;
             }
-        }
-        b'c' => {
-            let left = cuts::run(cut_of(line), prices);
-            Seen {
-                expected,
-                same: seen.same & (left == expected),
+            Some(b'c') => {
+                let left = cuts::run(cut_of(line), prices);
+                self.same = self.same & (self.expected == Some(left));
             }
+            Some(b's') => write_same(self.same),
+            _ => {}
         }
-        b's' => {
-            write_same(seen.same);
-            seen
-        }
-        _ => seen,
     }
 }
 
 // Writes what a step says that changes nothing.
 fn write(line: Line, held: BarBox, prices: &[f64]) {
-    let letter = line.letter;
     let n = (line.d % WORD) as u32;
-    match letter {
-        b'r' => labels::write_recognisers(prices),
-        b'v' => labels::write_codes(prices),
-        b't' => limits::write_makings(float(line.c), n),
-        b'l' => limits::write_look(held, (line.c % WORD) as u32, n),
-        b'a' => limits::write_looks(held, n),
-        b'i' => limits::write_places(held),
+    match line.letter {
+        Some(b'r') => labels::write_recognisers(prices),
+        Some(b'v') => labels::write_codes(prices),
+        Some(b't') => limits::write_makings(float(line.c), n),
+        Some(b'l') => limits::write_look(held, (line.c % WORD) as u32, n),
+        Some(b'a') => limits::write_looks(held, n),
+        Some(b'i') => limits::write_places(held),
         _ => {}
     }
 }
 
 // Takes the step of a line.
-fn step(st: State, line: Line) -> State {
-    let h = st.history;
-    let prices = h.prices;
-    let held = st.held;
-    let seen = st.seen;
-    let lent = measures::first_bars(&prices, h.bars);
-    write(line, held, lent);
-    let after = State {
-        history: history_after(h, line),
-        held: box_after(held, line, lent),
-        seen: seen_after(seen, line, lent),
-    };
-    if line.in_text {
-        text(b"\n");
-    }
-    after
+fn step(st: &mut State, line: Line) {
+    let prices = st.history.lent();
+    write(line, st.held, prices);
+    step_box(&mut st.held, line, prices);
+    st.seen.step(line, prices);
+    st.history.step(line);
 }
 
+// Of a last line that no line feed ends the text alone is written.
 fn run(script: &[u8]) {
     let mut st = start();
-    let mut line = EMPTY;
-    for byte in script {
-        if *byte == b'\n' {
-            st = step(st, line);
-            line = EMPTY;
-        } else {
-            line = script::with_byte(line, *byte);
+    for piece in script.split_inclusive(|byte| *byte == b'\n') {
+        let ended = piece.strip_suffix(b"\n");
+        let line = script::read(ended.unwrap_or(piece));
+        if let Some(said) = line.text {
+            text(said);
+        }
+        if ended.is_some() {
+            step(&mut st, line);
+            if line.text.is_some() {
+                text(b"\n");
+            }
         }
     }
 }

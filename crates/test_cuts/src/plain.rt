@@ -1,99 +1,68 @@
 // What a history leaves, told without a box: its rows and looks by the plain call over all its bars, its places by their prices, and all
 // ordinals by how many bars it has.
-use crate::cuts::{BARS, Left, SHEET};
-use crate::digest::{KINDS, OFFSETS, mix, mix_look, mix_place, of_bytes};
-use measures::{Bar, least};
+use crate::cuts::{Left, SHEET, bars_in};
+use crate::digest::{mix, mix_place, of_bytes, of_looks};
+use bar_box::KeptBar;
+use measures::Bar;
 use recognisers::counts::{FARTHEST_LOOK, PLACES, RECOGNISERS};
-use recognisers::{Refusal, Thresholds, answer_number};
+use recognisers::label::code;
+use recognisers::{Judged, Pair, Refusal, Thresholds};
 
-// The plain call as a number.
-fn call(prices: &[f64], k: u32, di: u32) -> u32 {
-    answer_number(recognisers::recognise(k, di, Thresholds::standard(), prices))
+// What an empty place holds.
+const NONE: KeptBar = KeptBar {
+    bar: Bar {
+        open: 0.0,
+        close: 0.0,
+        high: 0.0,
+        low: 0.0,
+    },
+    ordinal: 0,
+};
+
+fn call(prices: &[f64], k: u32, di: u32) -> Result<Pair, Refusal> {
+    recognisers::recognise(k, di, Thresholds::standard(), prices)
 }
 
 // The sheet: the pairs of each bar as the newest of those before it and itself.
 pub fn rows(prices: &[f64]) -> [u8; SHEET] {
     let mut sheet = [255u8; SHEET];
-    let pairs = RECOGNISERS * least(measures::count(prices), BARS);
+    let pairs = RECOGNISERS * bars_in(prices);
     for i in 0..pairs {
-        let n = call(
-            measures::first_bars(prices, i / RECOGNISERS + 1),
-            (i % RECOGNISERS) as u32,
-            1,
-        );
-        sheet[2 * i] = (n / 256 % 256) as u8;
-        sheet[2 * i + 1] = (n % 256) as u8;
+        let seen = measures::first_bars(prices, i / RECOGNISERS + 1);
+        if let Ok(pair) = call(seen, (i % RECOGNISERS) as u32, 1) {
+            sheet[2 * i] = code(pair.v1);
+            sheet[2 * i + 1] = code(pair.v2);
+        }
     }
     sheet
 }
 
-// The bar in a place of a box that was fed these bars.
-fn bar_in(prices: &[f64], place: usize) -> Bar {
-    let n = measures::count(prices);
-    let kept = least(n, PLACES);
-    if place < kept {
-        measures::bar_or_none(prices, n - kept + place)
-    } else {
-        Bar {
-            open: 0.0,
-            close: 0.0,
-            high: 0.0,
-            low: 0.0,
-        }
+// What a place of a box holds that was fed these bars, with ordinals from 1 for the first bar of all.
+fn kept_in(prices: &[f64], place: usize) -> Option<KeptBar> {
+    let n = bars_in(prices);
+    let kept = n.min(PLACES);
+    if kept <= place {
+        return None;
     }
-}
-
-// The ordinal there, from 1 for the first bar of all; an empty place holds 0.
-fn ordinal_in(prices: &[f64], place: usize) -> u64 {
-    let n = measures::count(prices);
-    let kept = least(n, PLACES);
-    if place < kept {
-        (n - kept + place + 1) as u64
-    } else {
-        0
-    }
+    let i = n - kept + place;
+    Some(KeptBar {
+        bar: measures::bar_or_none(prices, i),
+        ordinal: (i + 1) as u32,
+    })
 }
 
 fn of_places(prices: &[f64]) -> u64 {
-    let mut d = 1;
-    for i in 0..PLACES {
-        d = mix_place(d, bar_in(prices, i), ordinal_in(prices, i));
-    }
-    d
+    (0..PLACES).fold(1, |d, i| mix_place(d, kept_in(prices, i).unwrap_or(NONE)))
 }
 
-// A look at 44 is refused, where the plain call is not.
-fn look(prices: &[f64], k: u32, di: u32) -> u32 {
+// A look at 44 is refused, where the plain call is not. The newest of n bars has the ordinal n; past the first bar it is 0, as in any look.
+fn look(prices: &[f64], k: u32, di: u32) -> Result<Judged, Refusal> {
     if FARTHEST_LOOK < di {
-        return answer_number(Err(Refusal::FarLook));
+        return Err(Refusal::FarLook);
     }
-    call(prices, k, di)
-}
-
-// The judged bar's ordinal: the newest of n bars has n. There is none past the first bar, and a refused look judges no bar.
-fn ordinal_back(prices: &[f64], di: u32) -> u64 {
-    let n = measures::count(prices);
-    let back = di as usize;
-    if back == 0 {
-        return 0;
-    }
-    if FARTHEST_LOOK < di {
-        return 0;
-    }
-    if n < back {
-        return 0;
-    }
-    (n - back + 1) as u64
-}
-
-fn of_looks(prices: &[f64]) -> u64 {
-    let mut d = 1;
-    for k in 0..KINDS {
-        for di in 0..OFFSETS {
-            d = mix_look(d, look(prices, k, di), ordinal_back(prices, di));
-        }
-    }
-    d
+    let pair = call(prices, k, di)?;
+    let ordinal = (bars_in(prices) + 1).saturating_sub(di as usize) as u32;
+    Ok(Judged { pair, ordinal })
 }
 
 // The digests that every cut should leave.
@@ -101,7 +70,7 @@ pub fn left(prices: &[f64]) -> Left {
     let sheet = rows(prices);
     Left {
         sheet: of_bytes(&sheet),
-        places: mix(of_places(prices), measures::count(prices) as u64),
-        looks: of_looks(prices),
+        places: mix(of_places(prices), bars_in(prices) as u64),
+        looks: of_looks(|k, di| look(prices, k, di)),
     }
 }

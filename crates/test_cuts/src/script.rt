@@ -1,5 +1,4 @@
-// A line of the script, read byte by byte: a word, of which the first letter says what is done, and up to four numbers; after a bar
-// comes text, which is written.
+// A line of the script: a word, of which the first letter says what is done, and up to four numbers; after a bar comes text, which is written.
 use recognisers::export::of_bits;
 
 // No value is made of more than 2^60, so that none overflows.
@@ -29,60 +28,57 @@ const UNUSUAL: [u64; 12] = [
     0x8000_0000_0000_0001,
 ];
 
-// The first byte, 0 if there is none yet; the last four numbers, of which d is the last; and whether the text has begun.
+// The first byte; zero bytes before it are passed over. The last four numbers, of which d is the last. The text, if there is a bar.
 #[derive(Clone, Copy)]
-pub struct Line {
-    pub letter: u8,
+pub struct Line<'a> {
+    pub letter: Option<u8>,
     pub a: u64,
     pub b: u64,
     pub c: u64,
     pub d: u64,
-    pub in_text: bool,
+    pub text: Option<&'a [u8]>,
 }
-
-pub const EMPTY: Line = Line {
-    letter: 0,
-    a: 0,
-    b: 0,
-    c: 0,
-    d: 0,
-    in_text: false,
-};
 
 // A number after one byte more; a point is passed over.
 fn with_digit(n: u64, byte: u8) -> u64 {
     match byte {
-        b'0'..=b'9' => 10 * (n % MOST) + (byte - b'0') as u64,
+        b'0'..=b'9' => 10 * (n % MOST) + u64::from(byte - b'0'),
         b'x' => X,
         _ => n,
     }
 }
 
-// A line after one byte more.
-pub fn with_byte(line: Line, byte: u8) -> Line {
-    let mut next = line;
-    if line.in_text {
-        test_output::byte(byte);
-        return next;
-    }
-    next.letter = if line.letter == 0 { byte } else { line.letter };
+// The last four numbers after one byte more.
+fn with_byte(numbers: [u64; 4], byte: u8) -> [u64; 4] {
+    let [a, b, c, d] = numbers;
     match byte {
-        b'|' => next.in_text = true,
-        b' ' => {
-            next.a = line.b;
-            next.b = line.c;
-            next.c = line.d;
-            next.d = 0;
-        }
-        _ => next.d = with_digit(line.d, byte),
+        b' ' => [b, c, d, 0],
+        _ => [a, b, c, with_digit(d, byte)],
     }
-    next
+}
+
+pub fn read(line: &[u8]) -> Line<'_> {
+    let (words, text) = match line.iter().position(|byte| *byte == b'|') {
+        Some(bar) => (&line[..bar], Some(&line[bar + 1..])),
+        None => (line, None),
+    };
+    let [a, b, c, d] = words
+        .iter()
+        .fold([0; 4], |numbers, byte| with_byte(numbers, *byte));
+    Line {
+        letter: words.iter().copied().find(|byte| *byte != 0),
+        a,
+        b,
+        c,
+        d,
+        text,
+    }
 }
 
 // The float of so many hundredths, or one that is no ordinary number.
 pub fn float(n: u64) -> f64 {
     if n < X {
-        n as u32 as f64 / 100.0
+        f64::from(n as u32) / 100.0
     } else {
         of_bits(UNUSUAL[(n % 100 % 12) as usize])
     }
