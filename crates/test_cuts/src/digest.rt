@@ -16,7 +16,7 @@ const WORD: u64 = 0x1_0000_0000;
 pub const KINDS: u32 = RECOGNISERS as u32;
 
 // Each of them is asked at each offset from 0, which is refused, to 44, which is refused too.
-pub const OFFSETS: u32 = 45;
+const OFFSETS: u32 = 45;
 
 // A digest after one word more.
 pub fn mix(d: u64, x: u64) -> u64 {
