@@ -16,7 +16,7 @@ const WORD: u64 = 0x1_0000_0000;
 pub const KINDS: u32 = RECOGNISERS as u32;
 
 // Each of them is asked at each offset from 0, which is refused, to 44, which is refused too.
-pub const OFFSETS: u32 = 45;
+const OFFSETS: u32 = 45;
 
 // A digest after one word more.
 pub fn mix(d: u64, x: u64) -> u64 {
@@ -62,7 +62,7 @@ fn mix_look(d: u64, a: Result<Judged, Refusal>) -> u64 {
 
 // Of all that can be seen by looking: what a look answers at each recogniser and offset. Two loops, since in a fold within a fold the goal
 // `fold-requires-clause-callable` did not close.
-pub fn of_looks<Look: Fn(u32, u32) -> Result<Judged, Refusal>>(look: Look) -> u64
+pub(crate) fn of_looks<Look: Fn(u32, u32) -> Result<Judged, Refusal>>(look: Look) -> u64
     requires pre { (f : _) (k : _) (di : _) → Look.pre f k di }
 {
     let mut d = 1;

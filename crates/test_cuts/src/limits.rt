@@ -8,8 +8,8 @@ use recognisers::refusals::{refusal_number, verdict_number};
 use recognisers::{Judged, Refusal, Thresholds, answer_in, answer_number};
 use test_output::{digest, number};
 
-// The standard set but for the i-th threshold: x where that is a float, else n. By number, since thresholds has thirteen makings in this
-// order, and an array of closures would be no plainer.
+// The standard set but for the i-th threshold: x where that is a float, else n. By number, in the order of the script's
+// thirteen makings: an array of closures is no plainer.
 pub fn changed(i: u32, x: f64, n: u32) -> Thresholds {
     let mut t = Thresholds::standard();
     match i {
@@ -58,7 +58,7 @@ pub fn feed(b: &mut BarBox, prices: &[f64], lent: usize) {
 }
 
 pub fn write_places(b: BarBox) {
-    let bars = b.bars;
+    let bars = &b.bars;
     number(b": count ", u64::from(b.count));
     digest(b", 0 to 9 ", of_places(&bars[..10]));
     digest(b", 10 to 12 ", of_places(&bars[10..13]));

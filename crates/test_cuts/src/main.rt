@@ -175,7 +175,7 @@ impl Seen {
             }
             Some(b'c') => {
                 let left = cuts::run(cut_of(line), prices);
-                self.same = self.same & (self.expected == Some(left));
+                self.same &= self.expected == Some(left);
             }
             Some(b's') => write_same(self.same),
             _ => {}
