@@ -38,8 +38,8 @@ fn table_of(numbers: &[u32]) -> [TallyRow; RECOGNISERS]
     from_fn(|k| row_of(numbers, k))
 }
 
-// Writes the table's numbers, as far as there are places for them. Row and column come from the place's index, which `iter_mut().enumerate()`
-// would count too, and of what is written through an adapter of `iter_mut` a proof knows nothing.
+// Writes the table's numbers, as far as there are places for them. Row and column come from the place's index, so that `iter_mut().enumerate()`
+// would have it too, over a slice of the places first: no plainer.
 fn put(tally: [TallyRow; RECOGNISERS], numbers: &mut [u32])
     ensures { numbers.new ≡ written_to numbers.old (numbers_of tally) }
 {

@@ -31,7 +31,7 @@ fn window_of(numbers: &[u32], i: usize) -> DayWindow
     }
 }
 
-// The hours with these numbers. A count of 5 is too many windows: the C interface (jcc_terms) says so, and the making refuses it.
+// The hours with these numbers. A count of 5 stands for too many windows, which the making refuses: the C interface (jcc_terms) takes one to four.
 pub fn hours_of(numbers: &[u32]) -> Hours
     ensures { result ≡ hours_in numbers.now }
 {

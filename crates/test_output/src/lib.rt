@@ -13,10 +13,6 @@ pub fn text(s: &[u8]) {
     io::write_all(STDOUT_FILENO, s);
 }
 
-pub fn byte(b: u8) {
-    text(&[b]);
-}
-
 // Text, then a number in decimal.
 pub fn number(before: &[u8], n: u64) {
     text(before);
