@@ -2,6 +2,5 @@
 pub mod Command
 pub mod Hex
 pub mod Lists
-pub mod Number
 pub mod Output
 pub mod Session
