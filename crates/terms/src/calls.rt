@@ -12,6 +12,7 @@ ghost use Rattle.terms.specs.Layer.{layer_with, ended_in, run_verdict_of, close_
 use crate::layers;
 use crate::layers::{Layer, Made};
 use bar_box::BarBox;
+use measures::put_bar;
 use recognisers::counts::{PLACES, ROW_BYTES};
 use recognisers::{Refusal, Thresholds};
 use term_events::verdicts;
@@ -108,8 +109,8 @@ pub fn close(l: &mut Layer, sheet: &mut [u8]) -> Result<usize, Refusal>
     match l.carried.pending.take() {
         None => Ok(0),
         Some(bar) => {
-            // no `measures::put_bar`: it writes into a run, and this is the whole run
-            let prices = [bar.open, bar.close, bar.high, bar.low];
+            let mut prices = [0.0; 4];
+            put_bar(bar, &mut prices, 0);
             bar_box::feed(&mut l.inner, &prices, sheet).unwrap();
             Ok(1)
         }
