@@ -18,8 +18,8 @@ struct TableRow {
     short_is_b: bool,
 }
 
-// The rows in the order of the numbers.
-const ROWS: [TableRow; RECOGNISERS] = [
+// The rows in the order of the numbers. Not a constant: that would be made anew wherever a row of it is read.
+static ROWS: [TableRow; RECOGNISERS] = [
     TableRow {
         from: 1,
         short_is_b: false,
