@@ -8,9 +8,12 @@ use mathlib.Core.List.{List, [], ◌++◌}
 use native.Mathlib.Omega.{arith}
 use native.Mathlib.Nat.{zero-add}
 use lib.ListN.{length, take, drop}
-use lib.Seq.{take_at}
+use lib.Ieee.{Float}
+use lib.Seq.{take_at, take-length}
 use Rattle.measures.specs.Bar.{Bar, bars_of, overlay}
 use Rattle.measures.specs.Window.{newest}
+use Rattle.measures.proofs.Overlay.{overlay-none}
+use Rattle.recognisers.specs.Threshold.{Thresholds}
 use Rattle.recognisers.specs.Number.{row_bytes, places}
 use Rattle.recognisers.specs.Refusal.{leaves}
 pub use Rattle.answers.proofs.VerdictLaws.{Fits, none_true, fits, accepts}
@@ -19,7 +22,26 @@ use Rattle.bar_box.specs.Sheet.{rows_of}
 use Rattle.bar_box.specs.Box.{kept, taken_in, fed_of, sheet_of}
 use Rattle.bar_box.specs.History.{Feed, verdict_on, appended, fed, rows_in, NoBars}
 use Rattle.bar_box.proofs.SheetLaws.{length-rows, rows-newest}
-use Rattle.bar_box.proofs.BoxLaws.{kept-taken, taken-append}
+use Rattle.bar_box.proofs.BoxLaws.{kept-taken, taken-append, taken_none}
+
+-- ---- a feed takes all lent prices in, or none
+
+-- those that it takes in, by the verdict
+abbrev lent : Verdict → List Float → List Float
+lent v ps = take (leaves v 0 (length ps)) ps
+
+-- they leave the box that the verdict says
+pub lent-box : (v : Verdict) (b : BarBox) → length b.bars ≡ places → (ps : List Float) → taken_in b (bars_of (lent v ps)) ≡ leaves v b (taken_in b (bars_of ps))
+unfolding bars_of
+lent-box (Ok tt) b all ps = rw (take-length ps)
+lent-box (Err r) b all ps = taken_none b all
+
+-- and the sheet
+pub lent-sheet : (v : Verdict) (t : Thresholds) (n : ℕ) (h : List Bar) (ps : List Float) (sheet : List ℕ)
+    → overlay sheet 0 (rows_of t n h (bars_of (lent v ps))) ≡ leaves v sheet (overlay sheet 0 (rows_of t n h (bars_of ps)))
+unfolding bars_of rows_of
+lent-sheet (Ok tt) t n h ps sheet = rw (take-length ps)
+lent-sheet (Err r) t n h ps sheet = overlay-none sheet 0
 
 -- ---- the box that a history left
 

@@ -18,7 +18,7 @@ use Rattle.growing_rules.specs.GrowingRule.{first_of, last_of, inner_of, rises_o
 use Rattle.middles.specs.MiddleSteps.{middle_of}
 use Rattle.growing_rules.specs.SearchSteps.{may_rise, may_fall, may_be_top, may_be_bottom, may_be_methods, may_be_tower, beyond}
 
-neither : (a b : Bool) → (a || b) ≡ false → (a ≡ false) × (b ≡ false)
+pub neither : (a b : Bool) → (a || b) ≡ false → (a ≡ false) × (b ≡ false)
 neither false b h = (refl, h)
 neither true b h = absurd (true≢false h)
 

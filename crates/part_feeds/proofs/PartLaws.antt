@@ -70,11 +70,11 @@ module _ (b : BarBox) (all : length b.bars ≡ places) (tally : List TallyRow) (
   taken_more : taken_in (taken_in b before) (bars_of part.prices) ≡ taken_in b later
   taken_more = rw (part-bars ps passed n) (taken-append b all before (take n (drop passed (bars_of ps))) ∙ rw (take-add passed n (bars_of ps)))
 
-  next-box : (fed_of (taken_in b before) part.prices (length part.sheet)).after ≡ taken_in b later
+  pub next-box : (fed_of (taken_in b before) part.prices (length part.sheet)).after ≡ taken_in b later
   next-box = fed-box (taken_in b before) part.prices part.sheet accepted ∙ taken_more
 
   -- their rows stand behind those before
-  next-sheet : put_mid (row_bytes * passed) (length s - row_bytes * passed) s (sheet_of (taken_in b before) part.prices part.sheet) ≡ overlay s₀ 0 (rows_from b later)
+  pub next-sheet : put_mid (row_bytes * passed) (length s - row_bytes * passed) s (sheet_of (taken_in b before) part.prices part.sheet) ≡ overlay s₀ 0 (rows_from b later)
   next-sheet =
       let room = (fits _ _ _ _ (accepted-plain b tally (lent ps s₀) whole)).room in
       let total = length-bars ps in
@@ -94,12 +94,12 @@ module _ (b : BarBox) (all : length b.bars ≡ places) (tally : List TallyRow) (
         plain-verdict _ _ counts _ _ (parts_add b all tally shaped before (accepted-adds _ _ tally _ _ whole)) ∙ accepted
 
     -- and are counted
-    next-tallied : tallied_of (taken_in b before) counts part ≡ record { verdict = Ok tt; after = taken_in b later; tally = counted (rows_from b later) tally }
+    pub next-tallied : tallied_of (taken_in b before) counts part ≡ record { verdict = Ok tt; after = taken_in b later; tally = counted (rows_from b later) tally }
     next-tallied =
         tallied-accepted (taken_in b before) counts part accepted-with
         ∙ rw (taken_more, part-bars ps passed n, parts-counted b all tally shaped before (take n (drop passed (bars_of ps))), take-add passed n (bars_of ps))
 
-    next-tallied-sheet : put_mid (row_bytes * passed) (length s - row_bytes * passed) s (tallied_sheet (taken_in b before) counts part) ≡ overlay s₀ 0 (rows_from b later)
+    pub next-tallied-sheet : put_mid (row_bytes * passed) (length s - row_bytes * passed) s (tallied_sheet (taken_in b before) counts part) ≡ overlay s₀ 0 (rows_from b later)
     unfolding tallied_sheet
     next-tallied-sheet = rw accepted-with next-sheet
 
