@@ -2,3 +2,4 @@
 pub mod Order
 pub mod FlatLaws
 pub mod MagnitudeLaws
+pub mod NanLaws

@@ -31,6 +31,7 @@ pub fn not_a_number() -> f64
     f64::NAN
 }
 
+#[tactic(auto, using(crate::proofs::NanLaws::differs))]
 pub fn is_nan(x: f64) -> bool
     ensures { result ≡ is_nan x }
 {
