@@ -11,7 +11,7 @@ use Rattle.measures.specs.Fold.{highest_of, lowest_of, every_of}
 use Rattle.measures.proofs.Order.{is-nan, both_ways}
 use Rattle.measures.proofs.FoldLaws.{highest-grows, lowest-grows, known-highest, known-lowest}
 use Rattle.held_extremes.specs.Candidate.{greater, smaller, stays, candidates}
-pub use Rattle.held_extremes.specs.Sides.{Way, SideLaws, rising, falling}
+pub use Rattle.held_extremes.specs.SideSteps.{Way, SideLaws, rising, falling}
 
 -- ---- a value that tells of prices whether any is beyond a price: the foremost of them
 

@@ -1,3 +1,3 @@
 pub mod Candidate
 pub mod CandidateSteps
-pub mod Sides
+pub mod SideSteps

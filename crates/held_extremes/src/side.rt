@@ -6,7 +6,7 @@ ghost use Rattle.measures.specs.declared.folds.Column.{Column};
 ghost use Rattle.measures.specs.declared.folds.Column.TheVariants.{High, Low};
 ghost use Rattle.measures.specs.Fold.{price_of};
 ghost use Rattle.held_extremes.specs.Candidate.{greater, smaller};
-ghost use Rattle.held_extremes.specs.Sides.{SideLaws, rising, falling};
+ghost use Rattle.held_extremes.specs.SideSteps.{SideLaws, rising, falling};
 
 use measures::{Bar, price};
 

@@ -1,3 +1,5 @@
--- Laws that the proofs of several functions, and the crates above, cite.
+-- Laws that proofs of functions, and the crates above, cite.
 pub mod Order
 pub mod FlatLaws
+pub mod MagnitudeLaws
+pub mod NanLaws

@@ -31,6 +31,7 @@ pub fn not_a_number() -> f64
     f64::NAN
 }
 
+#[tactic(auto, using(crate::proofs::NanLaws::differs))]
 pub fn is_nan(x: f64) -> bool
     ensures { result ≡ is_nan x }
 {
@@ -53,6 +54,7 @@ pub fn min(a: f64, b: f64) -> f64
 }
 
 // The magnitude of x; of either zero +0.
+#[tactic(auto, using(crate::proofs::MagnitudeLaws::size_is), unfolding(crate::specs::Price::abs_of))]
 pub fn abs(x: f64) -> f64
     ensures { result ≡ abs_of x }
 {
