@@ -1,4 +1,4 @@
--- The place of the first separator, or all. Assumes nothing.
+-- The place of the first separator, or all: found by search, which takes what the last call of the chain promises, whichever call that is. Assumes nothing.
 use Prim.Native.Nat.{ℕ}
 use mathlib.Core.Path.{◌≡◌}
 use borrow.Author.Rules.{rules}
@@ -15,4 +15,5 @@ returns c =
     let sep = c.args.separator in
     let s = c.args.s.now in
     let found : c.position.result ≡ position (λ (b : ℕ). eqb b sep) s = position_from_yields_List (λ (b : ℕ). eqb b sep) _ _ _ c.position.ensures.ran (YieldsList-from_slice s cc) (λ x b q k. search (rules, tests)) in
-    rw (c.unwrap_or.ensures, found) (first-place sep s)
+    let most = first-place sep s in
+    search (rules, found, most.0, most.1)

@@ -1,13 +1,17 @@
 -- The loop's invariant: the bytes passed are taken in, and the session and the buffer are what they leave. Where the loop ends, no byte
 -- of the rest is taken in. Assumes nothing.
-use Prim.Native.Nat.{suc, ◌+◌, ◌-◌, ◌≤◌, ◌<◌}
-use mathlib.Core.List.{[], ◌++◌, append-nil}
+use Prim.Native.Nat.{ℕ, suc, ◌+◌, ◌-◌, ◌≤◌, ◌<◌}
+use mathlib.Core.Bool.{Bool, true, false, not, ◌&&◌}
+use mathlib.Core.List.{List, [], ◌++◌, append-nil}
 use mathlib.Core.Path.{◌≡◌, refl, sym, ap, ◌∙◌}
 use native.Mathlib.Omega.{arith}
 use borrow.Author.Rules.{rules}
+use borrow.Author.Tests.{leb-true, le-leb}
+use lib.Dec.{leb, ltb}
 use lib.ListN.{length, take, drop, length-take, length-drop}
 use lib.Seq.{take_all}
 use Rattle.measures.proofs.Overlay.{overlay-none, length-overlay}
+use Rattle.output_lines.specs.Output.{line_room}
 use Rattle.output_lines.proofs.OutputLaws.{written_on}
 use Rattle.recognisers.specs.Number.{longest_line}
 use Rattle.input_lines.specs.Lines.{content, kept_line, partial_of}
@@ -15,8 +19,22 @@ use Rattle.input_lines.proofs.LineLaws.{content-partial}
 use Rattle.input_lines.proofs.PartLaws.{to_end}
 use Rattle.label_lines.specs.declared.session.Session.{Session}
 use Rattle.label_lines.specs.Session.{State, state_of, state_after, prints, used_of}
-use Rattle.label_lines.proofs.SessionLaws.{goes_on, rest-stays, used_all, turn-leaves, turn-prints, turn-used, state-session, session-state}
+use Rattle.label_lines.proofs.SessionLaws.{goes, goes_on, rest-stays, used_all, turn-leaves, turn-prints, turn-used, state-session, session-state}
 use Rattle.label_lines.proofs.session.absorb.Goals as goal
+
+-- where the loop ends, whatever number its test reads as the room: no byte of the rest is taken in, if that is enough for a line wherever
+-- the room left is
+stays : (s : State) (chunk : List ℕ) (used read left : ℕ) → goes used (length chunk) read s.stopped ≡ false → (line_room ≤ left → line_room ≤ read)
+    → used_of left s (drop used chunk) ≡ 0
+stays s chunk used read left ended enough = rest-stays s chunk used left (go (leb line_room left) refl)
+  where
+    none : (t : Bool) → (t && false) ≡ false
+    none true = refl
+    none false = refl
+
+    go : (t : Bool) → leb line_room left ≡ t → goes used (length chunk) left s.stopped ≡ false
+    go true e = rw e (rw (le-leb line_room read (enough (leb-true line_room left e))) at ended)
+    go false e = rw e (none (ltb used (length chunk) && not s.stopped))
 
 pub loop-used-init : goal.loop-used-init
 unfolding state_after prints used_of
@@ -31,7 +49,7 @@ advance-next-requires c =
     let inv = loop.invariant in
     let args = c.args in
     let chunk = args.chunk.now in
-    let sure = goes_on loop.used (length chunk) (length loop.out - loop.written) loop.session.stopped c.loop-used-test.true in
+    let sure = goes_on loop.used (length chunk) _ loop.session.stopped c.loop-used-test.true in
     let rest : length (take (length chunk - loop.used) (drop loop.used chunk)) ≡ length chunk - loop.used = rw (to_end chunk loop.used, length-drop) in
     (sure.1, rw rest (omega (arith, sure.0)), omega (arith, sure.2))
 
@@ -50,7 +68,7 @@ loop-used-preserved c =
     let args = c.args in
     let chunk = args.chunk.now in
     let s : State = record { line = content c.extend-line.result; box = args.st.held; stopped = args.st.stopped } in
-    let sure = goes_on loop.used (length chunk) (length loop.out - loop.written) loop.session.stopped c.loop-used-test.true in
+    let sure = goes_on loop.used (length chunk) _ loop.session.stopped c.loop-used-test.true in
     let turn = c.advance-next in
     let did = rw (to_end chunk loop.used) at turn.ensures in
     let here : state_of loop.session ≡ state_after s (take loop.used chunk) = rw inv.3 (state-session _) in
@@ -80,7 +98,7 @@ returns c =
     let kept : content extended.result ≡ s.line = rw (took, content-partial (kept_line (s.line ++ [])), append-nil) (take_all (suc longest_line) s.line short) in
     let inv = rw kept at loop.invariant in
     let here : state_of loop.session ≡ state_after s (take loop.used chunk) = rw inv.3 (state-session _) in
-    let none = rest-stays (state_of loop.session) chunk loop.used (length loop.out - loop.written) c.loop-used-test.false in
+    let none = stays (state_of loop.session) chunk loop.used _ (length loop.out - loop.written) c.loop-used-test.false (λ h. omega arith) in
     let size : loop.written ≡ length (prints s (take loop.used chunk)) = omega (arith, inv.4.0) in
     let all : used_of len s chunk ≡ loop.used = used_all s chunk loop.used len inv.0 inv.5 (rw (inv.2, here, size) at none) in
     record { answer = rw (all, inv.3, size); within = inv.1; buffer = rw all inv.4.1 }

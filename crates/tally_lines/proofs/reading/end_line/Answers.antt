@@ -3,6 +3,7 @@ use Rattle.std.specs.Prelude.{Some}
 use Prim.Native.Nat.{◌*◌}
 use mathlib.Core.Path.{refl, sym, ap, ◌∙◌}
 use native.Mathlib.Omega.{arith}
+use borrow.Author.Rules.{rules}
 use Rattle.measures.specs.Bar.{prices_of}
 use Rattle.measures.proofs.Overlay.{overlay-none}
 use Rattle.measures.proofs.PriceLaws.{put-room}
@@ -19,4 +20,4 @@ unfolding prices_of
 returns-in-Err c =
     let args = c.args in
     let says = sym c.read_partial.ensures.answer ∙ c.in-Err.is in
-    rw says (c.begin.ensures, refl, omega arith, ap Some c.stop_by.ensures, sym (overlay-none args.prices.now (4 * args.n)))
+    rw says (c.begin.ensures, refl, omega arith, search rules, sym (overlay-none args.prices.now (4 * args.n)))

@@ -1,9 +1,12 @@
 -- The loop's invariant: the session is what the bytes passed leave. Where the loop ends, those of the rest leave nothing else.
 -- Assumes nothing.
-use Prim.Native.Nat.{suc, ◌≤◌}
-use mathlib.Core.List.{[], ◌++◌, append-nil}
+use Prim.Native.Nat.{ℕ, suc, ◌≤◌}
+use mathlib.Core.Bool.{Bool, false, ◌&&◌}
+use mathlib.Core.List.{List, [], ◌++◌, append-nil}
 use mathlib.Core.Path.{◌≡◌, sym, ap, ◌∙◌}
 use native.Mathlib.Omega.{arith}
+use borrow.Author.Rules.{rules}
+use lib.Dec.{ltb}
 use lib.ListN.{length, take, drop, length-take, length-drop}
 use lib.Seq.{take_all, take-add}
 use Rattle.recognisers.specs.Number.{longest_line}
@@ -16,6 +19,11 @@ use Rattle.tally_lines.specs.Session.{State, state_of, session_of, state_after}
 use Rattle.tally_lines.proofs.GuardLaws.{none-goes_on}
 use Rattle.tally_lines.proofs.SessionLaws.{taken-append, state-session, session-stays, rest-left}
 use Rattle.tally_lines.proofs.session.absorb.Goals as goal
+
+-- as rest-left has it, for a test that is whether reading goes on, in whichever words
+rest-nothing : (s : State) (chunk : List ℕ) (used : ℕ) (test going : Bool) → used ≤ length chunk → (ltb used (length chunk) && test) ≡ false
+    → going ≡ goes_on (state_after s (take used chunk)).stop → test ≡ going → state_after s (take used chunk) ≡ state_after s chunk
+rest-nothing s chunk used test going within ended is same = rest-left s chunk used test within (same ∙ is) ended
 
 pub loop-used-init : goal.loop-used-init
 loop-used-init c =
@@ -52,4 +60,4 @@ returns c =
     let kept : content extended.result ≡ s.line = rw (took, content-partial (kept_line (s.line ++ [])), append-nil) (take_all (suc longest_line) s.line short) in
     let is : loop.session ≡ session_of (state_after s (take loop.used chunk)) = rw kept at inv.1 in
     let stop : loop.session.stop ≡ (state_after s (take loop.used chunk)).stop = ap (λ (st : Session). st.stop) is in
-    is ∙ ap session_of (rest-left s chunk loop.used _ inv.0 (sym (none-goes_on loop.session.stop _ c.is_none.ensures) ∙ ap goes_on stop) c.loop-used-test.false)
+    is ∙ ap session_of (rest-nothing s chunk loop.used _ _ inv.0 c.loop-used-test.false (sym (none-goes_on loop.session.stop _ c.is_none.ensures) ∙ ap goes_on stop) (search rules))
