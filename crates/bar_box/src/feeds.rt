@@ -75,7 +75,7 @@ fn take_in(b: &mut BarBox, prices: &[f64], sheet: &mut [u8])
 }
 
 // Takes the lent bars in and writes a row for each, or refuses and leaves box and sheet as they were.
-#[tactic(auto, using(crate::proofs::FeedFits::few_bars, crate::proofs::FeedFits::room_left), unfolding(crate::specs::Box::fed_of, crate::specs::Box::sheet_of))]
+#[tactic(auto, using(crate::proofs::FeedFits::few_bars, crate::proofs::FeedFits::room_left, crate::proofs::FeedFits::bars_in, crate::proofs::FeedFits::whole_run), unfolding(crate::specs::Box::fed_of, crate::specs::Box::sheet_of))]
 pub fn feed(b: &mut BarBox, prices: &[f64], sheet: &mut [u8]) -> Result<(), Refusal>
     ensures verdict { result ≡ (fed_of b.old prices.now (length sheet.old)).verdict }
     ensures after { b.new ≡ (fed_of b.old prices.now (length sheet.old)).after }
