@@ -8,7 +8,7 @@ use native.Mathlib.Omega.{arith}
 use borrow.Author.Rules.{rules}
 use borrow.Author.Tests.{eq-eqb, ne_eqb, ltb-true}
 use lib.Dec.{eqb}
-use lib.ListN.{length, get_or, get_or-eq_default}
+use lib.ListN.{length, drop, get_or, get_or-eq_default}
 use Rattle.std.specs.Cmp.Lexicographic.{pointwise}
 use Rattle.price_texts.specs.PriceText.{minus, unsigned_of, nan_text, price_of}
 use Rattle.input_lines.proofs.PartLaws.{to_end}
@@ -50,7 +50,7 @@ returns-in-45 c =
     let s = c.args.s.now in
     let nan = rw c.as_slice.ensures at c.eq.ensures ∙ is_nan s in
     let sign : get_or s 0 0 ≡ minus = omega arith in
-    let read : c.unsigned.result ≡ unsigned_of _ = rw to_end at c.unsigned.ensures in
+    let read : c.unsigned.result ≡ unsigned_of (drop 1 s) = cc (c.unsigned.ensures, to_end s 1) in
     rw (← nan, c.if-eq.false, eq-eqb _ _ sign, ← read) (search rules)
 
 pub returns-in_default : goal.returns-in_default
@@ -63,4 +63,4 @@ returns-in_default c =
       | in_default-via-then-s-lt1 w ↦ (let empty : length s ≤ 0 = omega (arith, ltb-true) in λ h. omega (arith, get_or-eq_default {A = ℕ} s 0 empty))
       | in_default-via-else-s-lt1+in_default-1 w ↦ λ h. omega arith
     ] in
-    rw (← nan, c.if-eq.false, ne_eqb _ _ none, c.unsigned-in_default.ensures)
+    rw (← nan, c.if-eq.false, ne_eqb _ _ none) (search (rules, to_end))
