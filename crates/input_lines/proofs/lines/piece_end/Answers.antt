@@ -1,4 +1,4 @@
--- The place of the first separator, or all: found by search, which takes what the last call of the chain promises, whichever call that is. Assumes nothing.
+-- The place of the first separator, or all. `search` takes what the last call of the chain promises, whichever call that is. Assumes nothing.
 use Prim.Native.Nat.{ℕ}
 use mathlib.Core.Path.{◌≡◌}
 use borrow.Author.Rules.{rules}
