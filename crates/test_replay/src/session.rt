@@ -1,6 +1,7 @@
 // The state between two lines, and what a line does to it.
 ghost use Rattle.std.specs.Prelude.{◌≡◌, [], replicate};
 ghost use Rattle.test_replay.specs.Hex.{longest};
+ghost use Rattle.test_replay.specs.Line.{EndsAt};
 ghost use Rattle.test_replay.specs.Session.{Executes};
 ghost use Rattle.test_replay.specs.Thresholds.{thresholds_of};
 
@@ -32,6 +33,13 @@ pub struct Session {
     ended: u64,
     history: Buffer,
     thresholds: Thresholds,
+}
+
+// Where the first line feed of s stands, and the length of s where there is none.
+fn line_end(s: &[u8]) -> usize
+    ensures { EndsAt s.now 0 result }
+{
+    s.iter().position(|b| *b == b'\n').unwrap_or(s.len())
 }
 
 impl Session {
@@ -95,16 +103,18 @@ impl Session {
         Ok(())
     }
 
-    // The bytes of one read: the rest of a line, lines, and the start of one.
+    // The bytes of one read: the rest of a line, lines, and the start of one. No `for` over `split_inclusive`: nothing would hold what it
+    // splits at.
     pub fn feed<W: Write>(&mut self, s: &[u8], output: &mut Output<W>) -> Result<(), Stop> {
-        for part in s.split_inclusive(|b| *b == b'\n') {
-            match part {
-                [rest @ .., b'\n'] => {
-                    append(&mut self.line, rest);
-                    self.end_line(output)?;
-                }
-                _ => append(&mut self.line, part),
-            }
+        let mut rest = s;
+        while !rest.is_empty() {
+            let (line, behind) = rest.split_at(line_end(rest));
+            append(&mut self.line, line);
+            let [_, left @ ..] = behind else {
+                return Ok(());
+            };
+            self.end_line(output)?;
+            rest = left;
         }
         Ok(())
     }
