@@ -1,7 +1,6 @@
 -- Each answer of the reader: its bar behind the others, or its refusal. Assumes nothing.
-use Rattle.std.specs.Prelude.{Some}
 use Prim.Native.Nat.{◌*◌}
-use mathlib.Core.Path.{refl, sym, ap, ◌∙◌}
+use mathlib.Core.Path.{refl, sym, ◌∙◌}
 use native.Mathlib.Omega.{arith}
 use borrow.Author.Rules.{rules}
 use Rattle.measures.specs.Bar.{prices_of}
